@@ -5,7 +5,7 @@ use native.Mathlib.Omega.{arith}
 use native.Mathlib.Numerals.{add-one}
 use mathlib.Core.List.{List, [], _∷_, _++_, map}
 use lib.ListN.{length}
-use Rattle.stage.specs.Stage.{Step, Stage, ran, outs, both, mapped}
+use Rattle.stage.specs.Stage.{Step, Stage, ran, outs, both, identity, mapped}
 
 module _ {S X Y : Type 0} (f : Stage S X Y) where
   pub outs-length : (n : ℕ) (s : S) (xs : List X) → length (outs f n s xs) ≡ length xs
@@ -48,6 +48,17 @@ module _ {A X Y Z : Type 0} (f : Stage A X Y) (m : Y → Z) where
   unfolding outs
   outs-mapped n a [] = refl
   outs-mapped n a (x ∷ xs) = ap (λ (t : List Z). m (f n a x .out) ∷ t) (outs-mapped (n + 1) (f n a x .next) xs)
+
+module _ {S X : Type 0} where
+  pub ran-identity : (n : ℕ) (s : S) (xs : List X) → ran identity n s xs ≡ s
+  unfolding ran identity
+  ran-identity n s [] = refl
+  ran-identity n s (x ∷ xs) = ran-identity (n + 1) s xs
+
+  pub outs-identity : (n : ℕ) (s : S) (xs : List X) → outs identity n s xs ≡ xs
+  unfolding outs identity
+  outs-identity n s [] = refl
+  outs-identity n s (x ∷ xs) = ap (λ (t : List X). x ∷ t) (outs-identity (n + 1) s xs)
 
 -- a stage on states that stand for those of another, up to a count e, while what is asked of the state holds
 module _ {S T X Y : Type 0} (f : Stage S X Y) (g : Stage T X Y) (h : ℕ → S → T) (e : ℕ) (I : ℕ → S → Type 0)

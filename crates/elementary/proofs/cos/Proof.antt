@@ -6,12 +6,11 @@ use Prim.Native.Nat.{_≤_}
 use native.Mathlib.Nat.{mul-le-mul, lt-of-le-of-lt}
 use native.Mathlib.Omega.{arith}
 use lib.Dec.{lit<}
-use Rattle.elementary.specs.Elementary.{COS, cosStep, down, one}
+use Rattle.elementary.specs.Elementary.{COS, cosStep, down}
+use Rattle.casts.specs.Arithmetic.{one}
 use Rattle.elementary.proofs.Down.{down-step, down-zero}
 use Rattle.elementary.proofs.cos.Statement.{statement}
 use Rattle.elementary.proofs.cos.Tie as tie
-use Rattle.elementary.proofs.cos.Reads as reads
-use Rattle.elementary.proofs.cos.Lts as lts
 
 abbrev Inv-loop : tie.InvT-loop
 Inv-loop v r z c₀ j₀ c j = (j ≤ 14) × (down (cosStep z) j c ≡ down (cosStep z) 14 one)

@@ -6,12 +6,11 @@ use Prim.Native.Nat.{_≤_}
 use native.Mathlib.Nat.{mul-le-mul, lt-of-le-of-lt}
 use native.Mathlib.Omega.{arith}
 use lib.Dec.{lit<}
-use Rattle.elementary.specs.Elementary.{SIN, sinStep, down, one}
+use Rattle.elementary.specs.Elementary.{SIN, sinStep, down}
+use Rattle.casts.specs.Arithmetic.{one}
 use Rattle.elementary.proofs.Down.{down-step, down-zero}
 use Rattle.elementary.proofs.sin.Statement.{statement}
 use Rattle.elementary.proofs.sin.Tie as tie
-use Rattle.elementary.proofs.sin.Reads as reads
-use Rattle.elementary.proofs.sin.Lts as lts
 
 abbrev Inv-loop : tie.InvT-loop
 Inv-loop v r z s₀ j₀ s j = (j ≤ 13) × (down (sinStep z) j s ≡ down (sinStep z) 13 one)

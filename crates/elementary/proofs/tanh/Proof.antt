@@ -4,16 +4,13 @@ use borrow.Author.Needs.{needs}
 use mathlib.Core.Path.{_≡_, sym, _∙_}
 use Prim.Native.Nat.{_≤_}
 use native.Mathlib.Omega.{arith}
-use lib.Ieee.{binary64, ofBits}
-use Rattle.elementary.specs.Elementary.{TANH, tanhStep, down}
+use Rattle.elementary.specs.Elementary.{TANH, tanhStep, eightyOne, down}
 use Rattle.elementary.proofs.Down.{down-step, down-zero}
 use Rattle.elementary.proofs.tanh.Statement.{statement}
 use Rattle.elementary.proofs.tanh.Tie as tie
-use Rattle.elementary.proofs.tanh.Reads as reads
-use Rattle.elementary.proofs.tanh.Lts as lts
 
 abbrev Inv-loop : tie.InvT-loop
-Inv-loop v z t₀ i₀ t i = (i ≤ 40) × (down (tanhStep z) i t ≡ down (tanhStep z) 40 (ofBits binary64 0x4054_4000_0000_0000))
+Inv-loop v z t₀ i₀ t i = (i ≤ 40) × (down (tanhStep z) i t ≡ down (tanhStep z) 40 eightyOne)
 
 abbrev μ-loop : tie.MeasureT-loop
 μ-loop v z t₀ i₀ t i = i

@@ -1,0 +1,39 @@
+-- `automation::sweep_span` meets its contract. Assumes nothing.
+use mathlib.Core.Path.{sym, ap, _∙_}
+use native.Mathlib.Omega.{arith}
+use Rattle.automation.specs.Pieces.{sweepSpan}
+use Rattle.automation.proofs.Points.{reached-next}
+use borrow.Author.Tests.{eq-eqb, ne-eqb}
+use borrow.Author.Needs.{needs}
+use Rattle.automation.proofs.sweep_span.Statement.{statement}
+use Rattle.automation.proofs.sweep_span.Tie as tie
+
+returns : tie.Need-returns
+unfolding sweepSpan
+returns c = rw (← c .before .before .pre .is, eq-eqb _ _ (c .if1 .taken))
+
+mul-least : tie.Need-mul-least
+mul-least c = search needs
+
+shared-slice-read-least : tie.Need-shared-slice-read-least
+shared-slice-read-least c = search needs
+
+sub-least : tie.Need-sub-least
+sub-least c = let d = c .before in
+    let s = d .before .before in
+    let e = s .pre .is in
+    let next = reached-next (s .args .positions .now) (s .args .n) (omega (arith, e, s .pre .most, d .if1 .left)) in
+    rw e (omega arith)
+
+least-requires : tie.Need-least-requires
+least-requires c κs = search needs
+
+returns-2 : tie.Need-returns-2
+unfolding sweepSpan
+returns-2 c = let d = c .before .before in
+    rw (← d .before .before .pre .is, ne-eqb _ _ (d .if1 .left)) (c .least .ensures)
+
+pub sweep-span-spec : {M : Type 1} → statement M
+sweep-span-spec =
+    tie.close
+    (tie.spec returns mul-least shared-slice-read-least sub-least least-requires returns-2)

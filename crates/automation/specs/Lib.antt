@@ -1,0 +1,3 @@
+pub mod Automation
+pub mod Pieces
+pub mod Cases

@@ -1,0 +1,32 @@
+-- How many samples have the tuning of the first: to the block's end, the ramp's end or the next point. Definitions only.
+use mathlib.Core.Path.{_≡_}
+use Prim.Native.Nat.{ℕ, _-_, _%_, _≤_, min}
+use mathlib.Core.Bool.{cond}
+use mathlib.Core.List.{List}
+use lib.ListN.{length, getD}
+use lib.Dec.{leb, eqb}
+use lib.Ieee.{Float}
+use Rattle.ramp.specs.declared.Ramp.{Ramp}
+use Rattle.ramp.specs.Ramp.{rampEnd}
+use Rattle.automation.specs.declared.Tone.{Tone}
+use Rattle.automation.specs.declared.Piece.{Piece}
+use Rattle.automation.specs.Automation.{reached, tuningAt}
+
+-- i is the number of points reached at n, which callers hand down
+pub record Reached (ps : List ℕ) (n i : ℕ) : Type 0 where
+  pub is : i ≡ reached ps n
+  pub most : i ≤ length ps
+
+-- to the ramp's end, and no further than a block
+unfoldable pub rampSpan : Ramp → ℕ → ℕ
+rampSpan r n = cond (leb (rampEnd r) n) 32 (min (rampEnd r - n) 32)
+
+-- to the next point
+unfoldable pub sweepSpan : List ℕ → ℕ → ℕ
+sweepSpan ps n = cond (eqb (reached ps n) (length ps)) 32 (min (getD ps (reached ps n) 0 - n) 32)
+
+unfoldable pub span : Ramp → List ℕ → ℕ → ℕ
+span r ps n = min (32 - n % 32) (min (rampSpan r n) (sweepSpan ps n))
+
+unfoldable pub pieceAt : Tone → Ramp → List ℕ → List Float → ℕ → Piece
+pieceAt tone daylight ps xs n = record { tuning = tuningAt tone daylight ps xs n; len = span daylight ps n }

@@ -1,0 +1,12 @@
+-- Laws of bit patterns, of rounding, of the floor and of powers of two.
+pub mod Pattern
+pub mod Split
+pub mod Exact
+mod Widening
+mod Rounded
+mod Closest
+mod Narrowing
+mod Cases
+mod Powers
+mod Floors
+mod Whole

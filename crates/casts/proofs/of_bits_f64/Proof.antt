@@ -1,0 +1,19 @@
+-- `casts::of_bits_f64` meets its contract. Assumes nothing.
+use mathlib.Core.Path.{_∙_}
+use borrow.Author.Needs.{needs}
+use lib.Ieee.{binary64}
+use Rattle.casts.proofs.Split.{zero-by-zero, reads-nan, reads-number}
+use Rattle.casts.proofs.of_bits_f64.Statement.{statement}
+use Rattle.casts.proofs.of_bits_f64.Tie as tie
+
+returns : tie.Need-returns
+returns c = zero-by-zero binary64 ∙ reads-nan binary64 (c .before .args .b) (c .if1 .taken)
+
+float-from-bits-result : tie.Need-float-from-bits-result
+float-from-bits-result c = reads-number binary64 (c .before .args .b) (c .if1 .left)
+
+returns-2 : tie.Need-returns-2
+returns-2 c = search needs
+
+pub of-bits-f64-spec : {M : Type 1} → statement M
+of-bits-f64-spec = tie.close (tie.spec returns float-from-bits-result returns-2)

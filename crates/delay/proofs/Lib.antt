@@ -1,0 +1,6 @@
+-- The laws of a delay line.
+pub mod Part
+pub mod Whole
+pub mod Line
+pub mod Rest
+pub mod Cases

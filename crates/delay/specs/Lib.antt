@@ -1,0 +1,2 @@
+-- Delay lines: the definitions that the contracts cite.
+pub mod Delay

@@ -1,0 +1,187 @@
+-- The loops over the kicks: what one more kick does, and where a loop ends. Assumes nothing.
+use mathlib.Core.Path.{_≡_, refl, sym, ap, _∙_}
+use mathlib.Core.Bool.{Bool, true, false, cond, _&&_}
+use Prim.Native.Nat.{ℕ, zero, suc, _+_, _-_, _<_, _≤_}
+use native.Mathlib.Omega.{arith}
+use native.Mathlib.Numerals.{add-one}
+use native.Mathlib.Decide.{decLt}
+use mathlib.Core.List.{List, [], _∷_, _++_}
+use lib.Dec.{leb}
+use lib.ListN.{length, take, drop, getD, set, length-set, length-map, length-drop, drop-of-length-le, List·getD-map}
+use lib.Seq.{drop-cons, getD-take, getD-drop, length-take-le, take-suc, take-length, append-snoc, set-at}
+use lib.Ieee.{Float}
+use borrow.Author.Tests.{le-leb, lt-leb}
+use Rattle.casts.specs.Arithmetic.{_⊗_, one}
+use Rattle.stage.specs.Stage.{Step}
+use Rattle.duck.specs.declared.DuckRate.{DuckRate}
+use Rattle.duck.specs.Sidechain.{span, sidechainGain}
+use Rattle.duck.specs.Rising.{risingFrom}
+use Rattle.duck.specs.Cursors.{DuckIn, duckOn, laid, isMark, flag, kicksIn, marksIn, Reached, reachedAt, reach, released, timesUntil, gave, gainOn, Within}
+
+-- ---- a list that never falls
+
+module _ (l : List ℕ) (b i : ℕ) where
+  pub rising-more : i < length l → risingFrom b (drop i l) ≡ leb b (getD l i 0) && (leb (getD l i 0) 4294967296 && risingFrom (getD l i 0) (drop (i + 1) l))
+  unfolding risingFrom
+  rising-more h = rw (drop-cons l i 0 h, add-one i)
+
+  pub rising-done : length l ≤ i → risingFrom b (drop i l) ≡ true
+  unfolding risingFrom
+  rising-done h = rw (drop-of-length-le l h)
+
+-- ---- a list that is laid at the front of a part
+
+pub laid-turn : (ks u : List ℕ) (j : ℕ) → j < length ks → j < length u → set (take j ks ++ drop j u) j (getD ks j 0) ≡ take (j + 1) ks ++ drop (j + 1) u
+laid-turn ks u j h k =
+    ap (λ (l : List ℕ). set (take j ks ++ l) j (getD ks j 0)) (drop-cons u j 0 k)
+    ∙ set-at (take j ks) (getD u j 0) (drop (suc j) u) (getD ks j 0) j (length-take-le j ks (omega arith))
+    ∙ rw (add-one j, take-suc ks j 0 h, append-snoc)
+
+pub laid-done : (ks u : List ℕ) (j : ℕ) → j ≤ length ks → length ks ≤ j → duckOn (record { count = j; reached = 0; ducking = 0 }) (take j ks ++ drop j u) ≡ laid ks u
+laid-done ks u j h k = let e : j ≡ length ks = omega arith in rw (e, take-length ks)
+
+-- ---- the tests of a kick, with no sum that could wrap
+
+module _ (r : DuckRate) (k n : ℕ) where
+  pub released-test : k ≤ n → r .attack ≤ n - k → leb (r .release) (n - k - r .attack) ≡ leb (k + span r) n
+  released-test h a = elim (decLt n (k + span r)) [
+    | yes i ↦ lt-leb (r .release) (n - k - r .attack) (omega arith) ∙ sym (lt-leb (k + span r) n i)
+    | no i ↦ le-leb (r .release) (n - k - r .attack) (omega arith) ∙ sym (le-leb (k + span r) n (omega arith))
+  ]
+
+-- ---- marking
+
+module _ (count : ℕ) (u : List ℕ) (c n : ℕ) (d : Bool) where
+  pub reach-more : c < count → getD u c 0 ≤ n → reach (count - (c + 1)) (c + 1) n d (set u (1024 + c) (flag d)) ≡ reach (count - c) c n d u
+  unfolding reach
+  reach-more h e = let s : count - c ≡ suc (count - (c + 1)) = omega arith in rw (s, le-leb (getD u c 0) n e)
+
+  pub reach-stop : c < count → n < getD u c 0 → reachedAt c u ≡ reach (count - c) c n d u
+  unfolding reach
+  reach-stop h e = let s : count - c ≡ suc (count - (c + 1)) = omega arith in rw (s, lt-leb (getD u c 0) n e)
+
+  pub reach-done : count ≤ c → reachedAt c u ≡ reach (count - c) c n d u
+  unfolding reach
+  reach-done h = let s : count - c ≡ 0 = omega arith in rw s
+
+-- ---- the kicks in use and their marks
+
+module _ (count : ℕ) (u : List ℕ) (few : count ≤ 1024) (wide : 2048 ≤ length u) where
+  pub kicks-length : length (kicksIn count u) ≡ count
+  kicks-length = length-take-le count u (omega arith)
+
+  pub marks-length : length (marksIn count u) ≡ count
+  marks-length = length-map (take count (drop 1024 u)) isMark ∙ length-take-le count (drop 1024 u) (rw length-drop (omega arith))
+
+  pub marks-get : (j : ℕ) → j < count → getD (marksIn count u) j false ≡ isMark (getD u (1024 + j) 0)
+  marks-get j h = List·getD-map isMark (take count (drop 1024 u)) j 0 ∙ ap isMark (getD-take count (drop 1024 u) j 0 h ∙ getD-drop 1024 u j 0)
+
+  kicks-cons : (c : ℕ) → c < count → drop c (kicksIn count u) ≡ getD u c 0 ∷ drop (c + 1) (kicksIn count u)
+  kicks-cons c h = let k = kicks-length in rw (drop-cons (kicksIn count u) c 0 (omega arith), getD-take count u c 0 h, add-one c)
+
+  marks-cons : (c : ℕ) → c < count → drop c (marksIn count u) ≡ isMark (getD u (1024 + c) 0) ∷ drop (c + 1) (marksIn count u)
+  marks-cons c h = let k = marks-length in rw (drop-cons (marksIn count u) c false (omega arith), marks-get c h, add-one c)
+
+  kicks-over : (c : ℕ) → count ≤ c → drop c (kicksIn count u) ≡ []
+  kicks-over c h = let k : length (kicksIn count u) ≤ c = rw kicks-length h in drop-of-length-le (kicksIn count u) k
+
+  module _ (r : DuckRate) (n c : ℕ) where
+    -- those that have released
+    pub released-more : c < count → leb (getD u c 0 + span r) n ≡ true → c + 1 + released r n (drop (c + 1) (kicksIn count u)) ≡ c + released r n (drop c (kicksIn count u))
+    unfolding released
+    released-more h e = rw (kicks-cons c h, e) (omega arith)
+
+    pub released-stop : c < count → leb (getD u c 0 + span r) n ≡ false → c ≡ c + released r n (drop c (kicksIn count u))
+    unfolding released
+    released-stop h e = rw (kicks-cons c h, e) (omega arith)
+
+    pub released-done : count ≤ c → c ≡ c + released r n (drop c (kicksIn count u))
+    unfolding released
+    released-done h = rw (kicks-over c h) (omega arith)
+
+    -- the product
+    pub times-more : (g : Float) → c < count → getD u c 0 ≤ n
+        → timesUntil r n (cond (isMark (getD u (1024 + c) 0)) (g ⊗ sidechainGain r (n - getD u c 0)) g) (drop (c + 1) (kicksIn count u)) (drop (c + 1) (marksIn count u))
+        ≡ timesUntil r n g (drop c (kicksIn count u)) (drop c (marksIn count u))
+    unfolding timesUntil
+    times-more g h e = rw (kicks-cons c h, marks-cons c h, le-leb (getD u c 0) n e)
+
+    pub times-stop : (g : Float) → c < count → n < getD u c 0 → g ≡ timesUntil r n g (drop c (kicksIn count u)) (drop c (marksIn count u))
+    unfolding timesUntil
+    times-stop g h e = rw (kicks-cons c h, marks-cons c h, lt-leb (getD u c 0) n e)
+
+    pub times-done : (g : Float) → count ≤ c → g ≡ timesUntil r n g (drop c (kicksIn count u)) (drop c (marksIn count u))
+    unfolding timesUntil
+    times-done g h = rw (kicks-over c h)
+
+-- ---- a sample keeps the cursors within their list
+
+reach-sized : (f c n : ℕ) (d : Bool) (u : List ℕ) → length (reach f c n d u .part) ≡ length u
+unfolding reach
+reach-sized zero c n d u = refl
+reach-sized (suc f) c n d u = by (leb (getD u c 0) n) (reach-sized f (c + 1) n d (set u (1024 + c) (flag d)) ∙ length-set u (1024 + c) (flag d))
+  where
+    by : (b : Bool) → length (reach f (c + 1) n d (set u (1024 + c) (flag d)) .part) ≡ length u
+        → length (cond b (reach f (c + 1) n d (set u (1024 + c) (flag d))) (reachedAt c u) .part) ≡ length u
+    by true h = h
+    by false h = refl
+
+reach-within : (f c n : ℕ) (d : Bool) (u : List ℕ) → reach f c n d u .cursor ≤ c + f
+unfolding reach
+reach-within zero c n d u = omega arith
+reach-within (suc f) c n d u = by (leb (getD u c 0) n) (reach-within f (c + 1) n d (set u (1024 + c) (flag d)))
+  where
+    by : (b : Bool) → reach f (c + 1) n d (set u (1024 + c) (flag d)) .cursor ≤ c + 1 + f
+        → cond b (reach f (c + 1) n d (set u (1024 + c) (flag d))) (reachedAt c u) .cursor ≤ c + suc f
+    by true h = omega arith
+    by false h = omega arith
+
+released-few : (r : DuckRate) (n : ℕ) (ks : List ℕ) → released r n ks ≤ length ks
+unfolding released
+released-few r n [] = omega arith
+released-few r n (k ∷ ks) = by (leb (k + span r) n) (released-few r n ks)
+  where
+    by : (b : Bool) → released r n ks ≤ length ks → cond b (released r n ks + 1) 0 ≤ suc (length ks)
+    by true h = omega arith
+    by false h = omega arith
+
+pub released-within : (count : ℕ) (u : List ℕ) (r : DuckRate) (n c : ℕ) → count ≤ 1024 → 2048 ≤ length u → c ≤ count → c + released r n (drop c (kicksIn count u)) ≤ count
+released-within count u r n c few wide h =
+    let k = kicks-length count u few wide in
+    let f = released-few r n (drop c (kicksIn count u)) in
+    let g = length-drop c (kicksIn count u) in
+    omega arith
+
+pub gain-sized : (r : DuckRate) (d : Bool) (n : ℕ) (s : DuckIn) → length (gainOn r d n s .next .part) ≡ length (s .part)
+unfolding gainOn
+gain-sized r d n s = reach-sized (s .duck .count - s .duck .reached) (s .duck .reached) n d (s .part)
+
+pub gain-within : (r : DuckRate) (d : Bool) (n : ℕ) (s : DuckIn) → Within s → Within (gainOn r d n s .next)
+unfolding gainOn
+gain-within r d n s w =
+    let f = s .duck .count - s .duck .reached in
+    let sized = reach-sized f (s .duck .reached) n d (s .part) in
+    let wide : 2048 ≤ length (reach f (s .duck .reached) n d (s .part) .part) = rw sized (w .sized) in
+    let c = reach-within f (s .duck .reached) n d (s .part) in
+    let k = w .reached in
+    record {
+      sized = wide;
+      few = w .few;
+      reached = omega arith;
+      ducking = released-within (s .duck .count) (reach f (s .duck .reached) n d (s .part) .part) r n (s .duck .ducking) (w .few) wide (w .ducking);
+    }
+
+-- ---- a sample is its three loops
+abbrev gains : DuckRate → ℕ → DuckIn → Reached → Step DuckIn Float
+gains r n s m =
+    let kicks = kicksIn (s .duck .count) (m .part) in
+    let from = s .duck .ducking + released r n (drop (s .duck .ducking) kicks) in
+    gave (record { count = s .duck .count; reached = m .cursor; ducking = from }) (m .part) (timesUntil r n one (drop from kicks) (drop from (marksIn (s .duck .count) (m .part))))
+
+pub gain-is : (r : DuckRate) (d : Bool) (n : ℕ) (s : DuckIn) (m : ℕ) (u : List ℕ) (from : ℕ) (g : Float)
+    → reachedAt m u ≡ reach (s .duck .count - s .duck .reached) (s .duck .reached) n d (s .part)
+    → from ≡ s .duck .ducking + released r n (drop (s .duck .ducking) (kicksIn (s .duck .count) u))
+    → g ≡ timesUntil r n one (drop from (kicksIn (s .duck .count) u)) (drop from (marksIn (s .duck .count) u))
+    → gave (record { count = s .duck .count; reached = m; ducking = from }) u g ≡ gainOn r d n s
+unfolding gainOn
+gain-is r d n s m u from g e f h = rw (h, f) (ap (gains r n s) e)

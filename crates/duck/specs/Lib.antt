@@ -1,0 +1,4 @@
+pub mod Sidechain
+pub mod Rising
+pub mod Cursors
+pub mod Cases

@@ -1,0 +1,2 @@
+pub mod Ramp
+pub mod Cases

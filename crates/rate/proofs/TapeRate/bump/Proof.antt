@@ -1,0 +1,20 @@
+-- `TapeRate::bump` meets its contract: antt computes both sides. Assumes nothing.
+use mathlib.Core.Path.{refl}
+use lib.Ieee.{ofBits, add, sub, mul, div, neg, le, lt, ofInt, toUnsigned, toBits, round, toSigned}
+use lib.Signed.{ltZ}
+use Rattle.elementary.specs.Elementary.{SIN, COS, SINH, EXP, LN, POW, down}
+use Rattle.casts.specs.Cast.{floored, twoTo}
+use Rattle.stream.specs.Stream.{gainOfDb}
+use Rattle.onepole.specs.OnePole.{poleOf}
+use Rattle.biquad.specs.Cookbook.{normalized, angleOf, lpf, bpf, lowpassAt, bandpassAt, butterQ}
+use Rattle.rate.specs.Lengths.{rounded, samplesAt}
+use Rattle.rate.specs.Tape.{duckRate}
+use Rattle.rate.proofs.TapeRate.bump.Statement.{statement}
+use Rattle.rate.proofs.TapeRate.bump.Tie as tie
+
+returns : tie.Need-returns
+unfolding normalized angleOf lpf bpf SINH lowpassAt bandpassAt butterQ gainOfDb duckRate rounded samplesAt SIN COS EXP LN POW down floored twoTo round toSigned ltZ ofBits add sub mul div neg le lt ofInt toUnsigned toBits
+returns c = refl
+
+pub bump-spec : {M : Type 1} → statement M
+bump-spec = tie.close (tie.spec returns)

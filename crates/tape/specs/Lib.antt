@@ -1,0 +1,3 @@
+-- The tape lane: its step on histories (Tape), and as it is kept (Kept).
+pub mod Tape
+pub mod Kept
