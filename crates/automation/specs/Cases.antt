@@ -1,6 +1,6 @@
 -- Marked cases e, f and g. antt computes each. Assumes nothing.
 use mathlib.Core.Path.{_≡_, refl}
-use mathlib.Core.List.{List, [], _∷_}
+use mathlib.Core.List.{[], _∷_}
 use Prim.Native.Nat.{ℕ}
 use lib.Ieee.{Float, binary64, ofBits, ofInt, add, sub, mul, div, le}
 use Rattle.casts.specs.Arithmetic.{nought, one, whole}

@@ -2,9 +2,8 @@
 // Uses casts, elementary and ramp.
 ghost use mathlib.Core.Path.{_≡_};
 ghost use Prim.Native.Nat.{_<_, _≤_, min, max};
-ghost use lib.ListN.{length, getD};
-ghost use lib.Ieee.{nan};
-ghost use Rattle.automation.specs.Automation.{blockOf, daylightOf, reached, segment, sweepAt, cornerBetween, driveBetween, toneAt, tuningAt};
+ghost use lib.ListN.{length};
+ghost use Rattle.automation.specs.Automation.{blockOf, daylightOf, reached, segment, sweepAt, swept, cornerBetween, driveBetween, toneAt, tuningAt};
 ghost use Rattle.automation.specs.Pieces.{Reached, rampSpan, sweepSpan, span, pieceAt};
 use ramp::Ramp;
 
@@ -74,7 +73,7 @@ pub fn daylight_at(r: Ramp, n: u64) -> f64
 
 // How many points from the front lie at or before n.
 fn reached(positions: &[u64], n: u64) -> usize
-    ensures { λ r. ⌜ r ≡ Rattle.automation.specs.Automation.reached (now (positions .entry)) n ⌝ }
+    ensures { λ r. ⌜ r ≡ reached (now (positions .entry)) n ⌝ }
 {
     let mut i = 0;
     while i < positions.len() {
@@ -89,7 +88,7 @@ fn reached(positions: &[u64], n: u64) -> usize
 // Between the point at a and the next, at b.
 fn segment(a: u64, xa: f64, b: u64, xb: f64, n: u64) -> f64
     requires { ⌜ (a ≤ n) × (n < b) ⌝ }
-    ensures { λ r. ⌜ r ≡ Rattle.automation.specs.Automation.segment a xa b xb n ⌝ }
+    ensures { λ r. ⌜ r ≡ segment a xa b xb n ⌝ }
 {
     let m = greatest(block_of(n), a);
     xa + (xb - xa) * std::num::nearest_u64_to_f64(m - a) / std::num::nearest_u64_to_f64(b - a)
@@ -112,7 +111,7 @@ fn sweep_at(positions: &[u64], values: &[f64], i: usize, n: u64) -> f64
 
 // A corner, opened x of the way from FILTERED_HZ to it. Its ends need no pow.
 pub fn swept(own: f32, x: f64) -> f32
-    ensures { λ r. ⌜ r ≡ Rattle.automation.specs.Automation.swept own x ⌝ }
+    ensures { λ r. ⌜ r ≡ swept own x ⌝ }
 {
     if x >= 1.0 {
         return own;

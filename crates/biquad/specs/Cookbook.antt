@@ -41,7 +41,7 @@ lowpassAt hz q rate = let w0 = angleOf hz rate in lpf (SIN w0) (COS w0) q
 unfoldable pub highpassAt : Float → Float → ℕ → Coefficients
 highpassAt hz q rate = let w0 = angleOf hz rate in hpf (SIN w0) (COS w0) q
 
--- the 60 to 120 Hz band, whose middle is sqrt(7200): "log2(2) = 1"
+-- "the 60 to 120 Hz band": its middle is sqrt(60·120) = sqrt(7200) Hz, and it is log2(120/60) = 1 octave wide
 unfoldable pub bandpassAt : ℕ → Coefficients
 bandpassAt rate = let w0 = angleOf SQRT7200 rate in bpf w0 (SIN w0) (COS w0) LOG2·2
 

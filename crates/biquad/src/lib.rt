@@ -2,9 +2,7 @@
 // Uses casts, elementary and stream.
 ghost use mathlib.Core.Path.{_≡_};
 ghost use Rattle.biquad.specs.Section.{sectionAt, sectionStep, retuned, sectionAtRest, lowpassStep, lowpassAtRest};
-ghost use Rattle.biquad.specs.Cookbook.{normalized, lpf, lowpassAt, butterLowpass, lowpassRetuned};
-
-const TAU: f64 = 6.28318530717958647692528676655900577;
+ghost use Rattle.biquad.specs.Cookbook.{normalized, angleOf, lpf, butterLowpass, lowpassRetuned};
 
 // The Butterworth Qs of order 4.
 const Q_FIRST: f64 = 1.306562964876377;
@@ -69,7 +67,7 @@ impl Section {
 
     // Other coefficients, the past kept.
     pub fn retuned(mut self, c: Coefficients) -> Section
-        ensures { λ r. ⌜ r ≡ Rattle.biquad.specs.Section.retuned self c ⌝ }
+        ensures { λ r. ⌜ r ≡ retuned self c ⌝ }
     {
         self.b0 = c.b0;
         self.b1 = c.b1;
@@ -118,9 +116,9 @@ fn cookbook_lowpass(sin: f64, cos: f64, q: f64) -> Coefficients
 
 // w0 of a corner: its angle a sample.
 fn angle(hz: f32, rate: u32) -> f64
-    ensures { λ r. ⌜ r ≡ Rattle.biquad.specs.Cookbook.angleOf hz rate ⌝ }
+    ensures { λ r. ⌜ r ≡ angleOf hz rate ⌝ }
 {
-    TAU * casts::widen(hz) / (rate as f64)
+    elementary::TAU * casts::widen(hz) / (rate as f64)
 }
 
 // An order-4 Butterworth low-pass, whose corner may move.

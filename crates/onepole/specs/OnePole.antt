@@ -12,9 +12,9 @@ use Rattle.onepole.specs.declared.Tilted.{Tilted}
 unfoldable pub poleOf : Float → ℕ → Float
 poleOf corner rate = EXP (neg TAU ⊗ corner ⊘ whole rate)
 
--- a one-pole whose past is zero
-unfoldable pub onePoleFresh : Float → ℕ → OnePole
-onePoleFresh corner rate = record { pole = poleOf corner rate; y = nought }
+-- "every filter's past is zero"
+unfoldable pub onePoleAt : Float → OnePole
+onePoleAt pole = record { pole = pole; y = nought }
 
 -- "The one-pole keeps its pole and its last output."
 unfoldable pub onePoleStep : OnePole → Float → OnePole

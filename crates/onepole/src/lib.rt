@@ -1,7 +1,7 @@
 // The one-pole low-pass, and the tilt that it makes.
 // Uses casts, elementary and stream.
 ghost use mathlib.Core.Path.{_≡_};
-ghost use Rattle.onepole.specs.OnePole.{onePoleStep, tiltStep, onePoleAtRest, liftOf};
+ghost use Rattle.onepole.specs.OnePole.{onePoleAt, onePoleStep, tiltStep, onePoleAtRest, liftOf};
 
 // y = (1 − a)·x + a·y₋₁, a being the pole and y the last output.
 pub struct OnePole {
@@ -20,6 +20,13 @@ const TILT_LIFT: f32 = 0.8;
 const RAIN_TILT_LIFT: f32 = -0.098;
 
 impl OnePole {
+    // A one-pole whose past is zero.
+    pub fn new(pole: f64) -> OnePole
+        ensures { λ r. ⌜ r ≡ onePoleAt pole ⌝ }
+    {
+        OnePole { pole, y: 0.0 }
+    }
+
     // The one-pole after x; its y is the output.
     pub fn lowpass(mut self, x: f64) -> OnePole
         ensures { λ r. ⌜ r ≡ onePoleStep self x ⌝ }

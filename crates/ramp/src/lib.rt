@@ -20,7 +20,7 @@ pub struct Ramp {
 
 // The value x of the way.
 fn shaped(shape: Shape, from: f64, to: f64, x: f64) -> f64
-    ensures { λ r. ⌜ r ≡ Rattle.ramp.specs.Ramp.shaped shape from to x ⌝ }
+    ensures { λ r. ⌜ r ≡ shaped shape from to x ⌝ }
 {
     match shape {
         Shape::Linear => from * (1.0 - x) + to * x,
@@ -31,7 +31,7 @@ fn shaped(shape: Shape, from: f64, to: f64, x: f64) -> f64
 impl Ramp {
     // The value from position 0 on.
     pub fn held(value: f64, shape: Shape) -> Ramp
-        ensures { λ r. ⌜ r ≡ Rattle.ramp.specs.Ramp.held value shape ⌝ }
+        ensures { λ r. ⌜ r ≡ held value shape ⌝ }
     {
         Ramp {
             from: value,
@@ -70,7 +70,7 @@ impl Ramp {
 
     // From the value at n to `to` over len samples; one already headed for `to` keeps its course.
     pub fn toward(self, n: u64, to: f64, len: u64) -> Ramp
-        ensures { λ r. ⌜ r ≡ Rattle.ramp.specs.Ramp.toward self n to len ⌝ }
+        ensures { λ r. ⌜ r ≡ toward self n to len ⌝ }
     {
         if self.to == to {
             return self;

@@ -6,6 +6,7 @@ ghost use Rattle.biquad.specs.Cookbook.{lowpassAt, bandpassAt, butterQ};
 ghost use Rattle.rate.specs.Tape.{duckRate, tapeRate};
 ghost use Rattle.rate.specs.Plate.{inputRate, leftRate, rightRate, plateRate};
 ghost use Rattle.rate.specs.Ceiling.{ceilingRate};
+ghost use Rattle.rate.specs.Rate.{rateOf};
 use biquad::Coefficients;
 use delay::DelayLine;
 use duck::DuckRate;
@@ -408,6 +409,37 @@ impl CeilingRate {
             window: CeilingRate::WINDOW,
             limit: CeilingRate::LIMIT,
             rise: CeilingRate::RISE,
+        }
+    }
+}
+
+// A strip's: how long the two lent stores are at least, and the stages' numbers.
+pub struct Rate {
+    pub samples: usize,
+    pub counts: usize,
+    pub tape: TapeRate,
+    pub plate: PlateRate,
+    pub ceiling: CeilingRate,
+}
+
+impl Rate {
+    pub const SAMPLES: usize = 49152;
+
+    pub const COUNTS: usize = 4096;
+
+    // 44,100 Hz.
+    pub fn cd() -> Rate
+        ensures { λ r. ⌜ r ≡ rateOf 44100 ⌝ }
+    {
+        let tape = TapeRate::cd();
+        let plate = PlateRate::cd();
+        let ceiling = CeilingRate::cd();
+        Rate {
+            samples: Rate::SAMPLES,
+            counts: Rate::COUNTS,
+            tape,
+            plate,
+            ceiling,
         }
     }
 }

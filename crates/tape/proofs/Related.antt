@@ -21,7 +21,8 @@ use Rattle.rate.specs.Tape.{TapeUsable}
 use Rattle.duck.specs.declared.DuckRate.{DuckRate}
 use Rattle.duck.specs.Rising.{risingFrom}
 use Rattle.duck.specs.Sidechain.{unmarked}
-use Rattle.duck.specs.Cursors.{DuckIn, duckOn, kicksIn, laid, Within}
+use Rattle.duck.specs.Cursors.{DuckIn, duckOn, kicksIn, laid, Within, duckStepOn}
+use Rattle.duck.proofs.Loops.{gain-sized}
 use Rattle.duck.proofs.Related.{DuckHolds, duck-relates, duck-fresh}
 use Rattle.automation.specs.Automation.{tuningAt}
 use Rattle.tape.specs.declared.TapeSetup.{TapeSetup}
@@ -121,3 +122,19 @@ tape-rest r usable ducked kicks n m t h =
     line-rest (r .warp) (usable .warp) (t .ring) n (rw (h .sized, usable .placed) (omega arith))
     ∙ rw (usable .placed) (ap allZero (take-all (r .warp .ring) (t .ring) (rw (h .sized) (omega arith)))) in
     rw (h .tone, h .equalizer, h .warp, e)
+
+-- ---- a sample leaves the parts as long as they were
+
+ducked-sized : (r : DuckRate) (ducked d : Bool) (n : ℕ) (s : DuckIn) (x : Float) → length (duckedStepOn r ducked d n s x .next .part) ≡ length (s .part)
+unfolding duckedStepOn
+ducked-sized r true d n s x = unfold duckStepOn in gain-sized r d n s
+ducked-sized r false d n s x = unfold identity in refl
+
+module _ (r : TapeRate) (s : TapeSetup) (daylight rain : Ramp) (l : Lists) (d : Bool) (n : ℕ) (t : TapeIn) (x : Float) where
+  pub ring-sized : length (tapeStepOn r s daylight rain l d n t x .next .ring) ≡ length (t .ring)
+  unfolding tapeStepOn tapeTuned frontStepOn
+  ring-sized = push-length (r .warp) (t .ring) n _
+
+  pub counts-sized : length (tapeStepOn r s daylight rain l d n t x .next .counts) ≡ length (t .counts)
+  unfolding tapeStepOn tapeTuned
+  counts-sized = ducked-sized (r .duck) (s .ducked) d n (duckOn (t .tape .duck) (t .counts)) _

@@ -1,7 +1,6 @@
 -- `automation::ramp_span` meets its contract. Assumes nothing.
 use Rattle.ramp.specs.Ramp.{rampEnd}
-use mathlib.Core.Path.{_≡_, sym, _∙_}
-use mathlib.Core.Bool.{false}
+use mathlib.Core.Path.{sym, _∙_}
 use native.Mathlib.Omega.{arith}
 use Rattle.automation.specs.Pieces.{rampSpan}
 use borrow.Author.Tests.{leb-false}

@@ -1,6 +1,5 @@
 -- `automation::sweep_at` meets its contract. Assumes nothing.
 use Prim.Native.Nat.{_-_}
-use mathlib.Core.Path.{sym, ap, _∙_}
 use native.Mathlib.Omega.{arith}
 use Rattle.automation.specs.Automation.{sweepAt}
 use Rattle.automation.proofs.Points.{reached-before, reached-next}

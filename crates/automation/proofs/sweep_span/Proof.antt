@@ -1,5 +1,4 @@
 -- `automation::sweep_span` meets its contract. Assumes nothing.
-use mathlib.Core.Path.{sym, ap, _∙_}
 use native.Mathlib.Omega.{arith}
 use Rattle.automation.specs.Pieces.{sweepSpan}
 use Rattle.automation.proofs.Points.{reached-next}

@@ -1,5 +1,4 @@
 -- `ramp::shaped` meets its contract. Assumes nothing.
-use mathlib.Core.Path.{sym}
 use Rattle.ramp.specs.Ramp.{shaped}
 use borrow.Author.Needs.{needs}
 use Rattle.ramp.proofs.shaped.Statement.{statement}

@@ -1,0 +1,15 @@
+pub mod Window
+pub mod Rings
+pub mod Sliding
+pub mod Bound
+pub mod Ready
+pub mod Stays
+pub mod Refines
+pub mod Delivered
+pub mod Opening
+pub mod Cases
+pub mod Laws
+pub mod Checking
+pub mod Queueing
+pub mod Stepping
+pub mod Blocks

@@ -1,0 +1,85 @@
+use borrow.Author.Needs.{needs}
+use Prim.Native.Nat.{_-_}
+use lib.ListN.{length}
+use Rattle.plate.specs.Plate.{plateOn, gave}
+use Rattle.plate.proofs.Turns.{Plating, plate-start, plate-turn, plate-done}
+use Rattle.plate.proofs.block.Statement.{statement}
+use Rattle.plate.proofs.block.Tie as tie
+
+abbrev Inv-loop : tie.InvT-loop
+Inv-loop rate part₀ left₀ right₀ n plate₀ i₀ part left right plate i = Plating rate n (plateOn plate₀ part₀) left₀ (plateOn plate part) left right i
+
+abbrev μ-loop : tie.MeasureT-loop
+μ-loop rate part₀ left₀ right₀ n plate₀ i₀ part left right plate i = length left₀ - i
+
+loop-holds : tie.Need-loop-holds Inv-loop μ-loop
+loop-holds c = let s = c .before .before .before in plate-start (s .args .rate) _ _ _ _ (s .pre .1 .1)
+
+mul-step : tie.Need-mul-step Inv-loop μ-loop
+mul-step c = search needs
+
+slice-read-step : tie.Need-slice-read-step Inv-loop μ-loop
+slice-read-step c = search needs
+
+add-step : tie.Need-add-step Inv-loop μ-loop
+add-step c = search needs
+
+step-requires : tie.Need-step-requires Inv-loop μ-loop
+step-requires c κs = search needs
+
+mul-left : tie.Need-mul-left Inv-loop μ-loop
+mul-left c = search needs
+
+slice-write-left : tie.Need-slice-write-left Inv-loop μ-loop
+slice-write-left c = search needs
+
+mul-right : tie.Need-mul-right Inv-loop μ-loop
+mul-right c = search needs
+
+slice-write-right : tie.Need-slice-write-right Inv-loop μ-loop
+slice-write-right c = search needs
+
+add-i : tie.Need-add-i Inv-loop μ-loop
+add-i c = search needs
+
+loop-less : tie.Need-loop-less Inv-loop μ-loop
+loop-less c = search needs
+
+loop-again : tie.Need-loop-again Inv-loop μ-loop
+loop-again c = let l = c .before .before .before .before .before .before .before .loop in let s = c .before .before .before .before .before .before .before .before .before .before .before in let w = c .before .before .before .step in
+    plate-turn (s .args .rate) (s .args .n) _ _ (plateOn (l .plate) (l .part)) (l .left) (l .right) (l .i) (gave (plateOn (w .result .plate) (w .last .1 .1 .0)) (w .result .frame)) (l .inv) (c .before .before .before .before .before .before .loop-test .taken) (w .kept .1 .1 .0) (w .ensures)
+
+same-length : tie.Need-same-length Inv-loop μ-loop
+same-length c = search needs
+
+same-length-2 : tie.Need-same-length-2 Inv-loop μ-loop
+same-length-2 c = search needs
+
+same-length-3 : tie.Need-same-length-3 Inv-loop μ-loop
+same-length-3 c = search needs
+
+returns : tie.Need-returns Inv-loop μ-loop
+returns c = let l = c .before .loop in let s = c .before .before .before .before .before in plate-done (s .args .rate) (s .args .n) _ _ (plateOn (l .plate) (l .part)) (l .left) (l .right) (l .i) (l .inv) (c .loop-test .left)
+
+pub block-spec : {M : Type 1} → statement M
+block-spec =
+    tie.close
+    (tie.spec
+    Inv-loop
+    μ-loop
+    loop-holds
+    mul-step
+    slice-read-step
+    add-step
+    step-requires
+    mul-left
+    slice-write-left
+    mul-right
+    slice-write-right
+    add-i
+    loop-less
+    loop-again
+    same-length
+    same-length-2
+    same-length-3
+    returns)

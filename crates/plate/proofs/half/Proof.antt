@@ -1,0 +1,46 @@
+use Rattle.plate.specs.Plate.{gave}
+use Rattle.plate.proofs.Calls.{half-is}
+use borrow.Author.Needs.{needs}
+use Rattle.plate.proofs.half.Statement.{statement}
+use Rattle.plate.proofs.half.Tie as tie
+
+stretched-requires : tie.Need-stretched-requires
+stretched-requires c κs = search needs
+
+stored-requires : tie.Need-stored-requires
+stored-requires c κs = search needs
+
+delayed-requires : tie.Need-delayed-requires
+delayed-requires c κs = search needs
+
+lowpass-requires : tie.Need-lowpass-requires
+lowpass-requires c κs = search needs
+
+lattice-requires : tie.Need-lattice-requires
+lattice-requires c κs = search needs
+
+stored-requires-2 : tie.Need-stored-requires-2
+stored-requires-2 c κs = search needs
+
+push-requires : tie.Need-push-requires
+push-requires c κs = search needs
+
+same-length : tie.Need-same-length
+same-length c = search needs
+
+returns : tie.Need-returns
+returns c = let s = c .before .before .before .before .before .before .before .before .before .before .before .before .before .before .before .before .before .before .before .before .before in half-is (s .args .rate) (s .args .decay) (s .args .diffusion) (s .args .n) (s .args .damping) (s .args .part .now) (s .args .fed) (s .args .stretch) (gave (c .before .before .before .before .before .before .before .before .before .before .before .before .before .before .before .before .before .before .stretched .last .1 .0) (c .before .before .before .before .before .before .before .before .before .before .before .before .before .before .before .before .before .before .stretched .result)) (gave (c .before .before .before .before .before .before .before .before .before .before .before .before .before .delayed .last .1 .0) (c .before .before .before .before .before .before .before .before .before .before .before .before .before .delayed .result)) (gave (c .before .before .before .before .before .before .before .lattice .last .1 .0) (c .before .before .before .before .before .before .before .lattice .result)) (c .before .before .before .before .before .before .before .before .before .before .before .before .before .before .stored .result) (c .before .before .before .before .stored2 .result) (c .before .before .before .before .before .before .before .before .before .before .lowpass .result) (c .before .before .push .last .1 .0) (c .before .before .before .before .before .before .before .before .before .before .before .before .before .before .before .before .before .before .stretched .ensures) (c .before .before .before .before .before .before .before .before .before .before .before .before .before .before .stored .ensures) (c .before .before .before .before .before .before .before .before .before .before .before .before .before .delayed .ensures) (c .before .before .before .before .before .before .before .before .before .before .lowpass .ensures) (c .before .before .before .before .before .before .before .lattice .ensures) (c .before .before .before .before .stored2 .ensures) (c .before .before .push .ensures)
+
+pub half-spec : {M : Type 1} → statement M
+half-spec =
+    tie.close
+    (tie.spec
+    stretched-requires
+    stored-requires
+    delayed-requires
+    lowpass-requires
+    lattice-requires
+    stored-requires-2
+    push-requires
+    same-length
+    returns)

@@ -1,0 +1,54 @@
+use native.Mathlib.Omega.{arith}
+use Rattle.plate.proofs.Calls.{halves-is}
+use borrow.Author.Needs.{needs}
+use Rattle.plate.proofs.halves.Statement.{statement}
+use Rattle.plate.proofs.halves.Tie as tie
+
+sub-half : tie.Need-sub-half
+sub-half c = search needs
+
+part-half-start : tie.Need-part-half-start
+part-half-start c = search needs
+
+part-half-end : tie.Need-part-half-end
+part-half-end c = search needs
+
+half-requires : tie.Need-half-requires
+half-requires c κs = search needs
+
+mul-half : tie.Need-mul-half
+mul-half c = search needs
+
+sub-half-2 : tie.Need-sub-half-2
+sub-half-2 c = search needs
+
+part-half-start-2 : tie.Need-part-half-start-2
+part-half-start-2 c = search needs
+
+part-half-end-2 : tie.Need-part-half-end-2
+part-half-end-2 c = search needs
+
+half-requires-2 : tie.Need-half-requires-2
+half-requires-2 c κs = let s = c .before .before .before .before .before .before in (s .pre .0 .right, (omega (arith, c .half-arg2 .given .2, c .before .before .part .given .1, s .pre .1 .0), s .pre .1 .1))
+
+same-length : tie.Need-same-length
+same-length c = search needs
+
+returns : tie.Need-returns
+returns c = let s = c .before .before .before .before .before .before .before .before .before in halves-is (s .args .rate) (s .args .n) (s .args .part .now) (omega (arith, s .pre .1 .0)) (s .args .tank) (s .args .fed) (s .args .stretch) (c .before .before .before .before .before .before .half .result) (c .before .before .half2 .result) _ _ (omega (arith, c .before .before .before .before .before .before .half .kept .1 .1 .1 .1 .0, c .before .before .before .before .before .before .before .half-arg .given .2)) (c .before .before .before .before .before .before .half .ensures) (c .before .before .half2 .ensures)
+
+pub halves-spec : {M : Type 1} → statement M
+halves-spec =
+    tie.close
+    (tie.spec
+    sub-half
+    part-half-start
+    part-half-end
+    half-requires
+    mul-half
+    sub-half-2
+    part-half-start-2
+    part-half-end-2
+    half-requires-2
+    same-length
+    returns)

@@ -1,0 +1,387 @@
+// The plate (plate.rs): Dattorro's plate-class reverberator, on its own part of the sample store. A line's ring is a
+// place of that part; the dampings and the high-passes are kept by value. It may use casts, stage, elementary, stream,
+// onepole, biquad, delay and rate.
+use biquad::Section;
+use delay::DelayLine;
+use onepole::OnePole;
+use rate::HalfRate;
+use rate::InputRate;
+use rate::LineRate;
+use rate::PlateRate;
+use rate::Taps;
+use stream::Frame;
+ghost use mathlib.Core.Path.{_≡_};
+ghost use mathlib.Core.List.{map};
+ghost use Prim.Native.Nat.{_+_, _<_, _≤_};
+ghost use lib.ListN.{length};
+ghost use Rattle.stream.specs.declared.Frame.{Frame};
+ghost use Rattle.stage.specs.Stage.{ran, outs};
+ghost use Rattle.delay.specs.Delay.{Reach};
+ghost use Rattle.rate.specs.Plate.{InputUsable, HalfUsable, TapsUsable, PlateUsable};
+ghost use Rattle.plate.specs.Machine.{storedOf, turnOf, stretchOf};
+ghost use Rattle.plate.specs.Plate.{gave, latticeFromOn, latticeOn, stretchedOn, delayOn, inputOn, halfIn, halfOn, leavingOn, tapsOn, tankIn, fedOn, halvesOn, returnedOn, tankOn, plateOn, plateStepOn, freshOn, quietOf, atRestOn, Lent, partOf};
+
+const INPUT_DIFFUSION_1: f64 = 0.75;
+
+const INPUT_DIFFUSION_2: f64 = 0.625;
+
+// "Note sign": decay diffusion 1's lattice is negated.
+const DECAY_DIFFUSION_1: f64 = -0.70;
+
+const TAP_GAIN: f64 = 0.6;
+
+const LFO_HZ: f64 = 1.0;
+
+const TAU: f64 = 6.28318530717958647692528676655900577;
+
+// The halves' dampings.
+pub struct Tank {
+    pub left: OnePole,
+    pub right: OnePole,
+}
+
+// The dampings, and each side's high-pass.
+pub struct Plate {
+    pub tank: Tank,
+    pub left: Section,
+    pub right: Section,
+}
+
+pub struct TankGave {
+    pub tank: Tank,
+    pub frame: Frame,
+}
+
+pub struct PlateGave {
+    pub plate: Plate,
+    pub frame: Frame,
+}
+
+// What a line inside a loop takes. Adding 0 turns -0 into +0, as the Rust's kick of 0 does.
+fn stored(v: f64) -> f64
+    ensures { λ r. ⌜ r ≡ storedOf v ⌝ }
+{
+    stream::flush(v) + 0.0
+}
+
+// A lattice of coefficient g whose line gives d.
+fn lattice_from(rate: LineRate, part: &mut [f64], g: f64, d: f64, x: f64, n: u64) -> f64
+    requires { ⌜ Lent rate (now part) ⌝ }
+    ensures { λ r. ⌜ gave (now (part .exit)) r ≡ latticeFromOn rate g d n (now (part .entry)) x ⌝ }
+{
+    let w = stored(x + g * d);
+    rate.line.push(part, n, w);
+    d - g * w
+}
+
+// A lattice at its own length.
+fn lattice(rate: LineRate, part: &mut [f64], g: f64, x: f64, n: u64) -> f64
+    requires { ⌜ Lent rate (now part) ⌝ }
+    ensures { λ r. ⌜ gave (now (part .exit)) r ≡ latticeOn rate g n (now (part .entry)) x ⌝ }
+{
+    let d = rate.line.at(part, n, rate.delay - 1);
+    lattice_from(rate, part, g, d, x, n)
+}
+
+// A lattice stretch frames longer, between frames.
+fn stretched(
+    rate: LineRate,
+    part: &mut [f64],
+    reach: f64,
+    stretch: f64,
+    g: f64,
+    x: f64,
+    n: u64,
+) -> f64
+    requires { ⌜ Lent rate (now part) ⌝ }
+    requires { ⌜ Reach reach ⌝ }
+    ensures { λ r. ⌜ gave (now (part .exit)) r ≡ stretchedOn rate reach stretch g n (now (part .entry)) x ⌝ }
+{
+    let back = std::num::nearest_u64_to_f64(rate.delay) + stretch - 1.0;
+    let d = rate.line.tap(part, n, reach, back);
+    lattice_from(rate, part, g, d, x, n)
+}
+
+// A plain delay: pushed, then read at its length.
+fn delayed(rate: LineRate, part: &mut [f64], x: f64, n: u64) -> f64
+    requires { ⌜ Lent rate (now part) ⌝ }
+    requires { ⌜ n < 4294967296 ⌝ }
+    ensures { λ r. ⌜ gave (now (part .exit)) r ≡ delayOn rate n (now (part .entry)) x ⌝ }
+{
+    rate.line.push(part, n, x);
+    rate.line.at(part, n + 1, rate.delay)
+}
+
+// The predelay and the four input lattices.
+fn input(rate: InputRate, part: &mut [f64], x: f64, n: u64) -> f64
+    requires { ⌜ InputUsable rate ⌝ }
+    requires { ⌜ (length (now part) ≡ rate .places) × (n < 4294967296) ⌝ }
+    ensures { λ r. ⌜ gave (now (part .exit)) r ≡ inputOn rate n (now (part .entry)) x ⌝ }
+{
+    let p = delayed(rate.predelay, part, x, n);
+    let a = lattice(rate.diffuser1, part, INPUT_DIFFUSION_1, p, n);
+    let b = lattice(rate.diffuser2, part, INPUT_DIFFUSION_1, a, n);
+    let c = lattice(rate.diffuser3, part, INPUT_DIFFUSION_2, b, n);
+    lattice(rate.diffuser4, part, INPUT_DIFFUSION_2, c, n)
+}
+
+// One half of the tank.
+fn half(
+    rate: HalfRate,
+    decay: f64,
+    diffusion: f64,
+    damping: OnePole,
+    part: &mut [f64],
+    fed: f64,
+    stretch: f64,
+    n: u64,
+) -> OnePole
+    requires { ⌜ HalfUsable rate ⌝ }
+    requires { ⌜ (length (now part) ≡ rate .places) × (n < 4294967296) ⌝ }
+    ensures { λ r. ⌜ halfIn r (now (part .exit)) ≡ halfOn rate decay diffusion n (halfIn damping (now (part .entry))) fed stretch ⌝ }
+{
+    let a = stretched(
+        rate.diffuser1,
+        part,
+        rate.reach,
+        stretch,
+        DECAY_DIFFUSION_1,
+        fed,
+        n,
+    );
+    let b = delayed(rate.delay1, part, stored(a), n);
+    let damping = damping.lowpass(b);
+    let d = lattice(rate.diffuser2, part, diffusion, damping.y * decay, n);
+    let e = stored(d);
+    rate.delay2.line.push(part, n, e);
+    damping
+}
+
+// The sample leaving a half on this frame, before its pushes.
+fn leaving(rate: HalfRate, part: &[f64], n: u64) -> f64
+    requires { ⌜ HalfUsable rate ⌝ }
+    requires { ⌜ length (now part) ≡ rate .places ⌝ }
+    ensures { λ r. ⌜ r ≡ leavingOn rate n (now (part .entry)) ⌝ }
+{
+    rate.delay2.line.at(part, n, rate.delay2.delay - 1)
+}
+
+// A side's taps of the other half and of its own, n samples being pushed.
+fn taps(t: Taps, other: HalfRate, own: HalfRate, there: &[f64], here: &[f64], n: u64) -> f64
+    requires { ⌜ HalfUsable other ⌝ }
+    requires { ⌜ HalfUsable own ⌝ }
+    requires { ⌜ TapsUsable t other own ⌝ }
+    requires { ⌜ (length (now there) ≡ other .places) × (length (now here) ≡ own .places) ⌝ }
+    ensures { λ r. ⌜ r ≡ tapsOn t other own n (now (there .entry)) (now (here .entry)) ⌝ }
+{
+    let a = other.delay1.line.at(there, n, t.first);
+    let b = other.delay1.line.at(there, n, t.second);
+    let c = other.diffuser2.line.at(there, n, t.third);
+    let d = other.delay2.line.at(there, n, t.fourth);
+    let e = own.delay1.line.at(here, n, t.fifth);
+    let f = own.diffuser2.line.at(here, n, t.sixth);
+    let g = own.delay2.line.at(here, n, t.seventh);
+    TAP_GAIN * (a + b - c + d - e - f - g)
+}
+
+// The LFO's angle at the frame n.
+fn turn(sr: u32, n: u64) -> f64
+    ensures { λ r. ⌜ r ≡ turnOf sr n ⌝ }
+{
+    let t = LFO_HZ * std::num::nearest_u64_to_f64(n) / (sr as f64);
+    TAU * (t - std::num::nearest_u64_to_f64(casts::whole_part(t)))
+}
+
+// How far each half's first lattice stretches: a quadrature pair.
+fn stretch(rate: PlateRate, n: u64) -> Frame
+    ensures { λ r. ⌜ r ≡ stretchOf rate n ⌝ }
+{
+    let turn = turn(rate.sr, n);
+    let sin = elementary::sin(turn);
+    let cos = elementary::cos(turn);
+    Frame {
+        left: rate.excursion * sin,
+        right: rate.excursion * cos,
+    }
+}
+
+// What each half is fed: the input, and what leaves the other.
+fn fed(rate: PlateRate, part: &[f64], x: f64, n: u64) -> Frame
+    requires { ⌜ PlateUsable rate ⌝ }
+    requires { ⌜ length (now part) ≡ rate .left .places + rate .right .places ⌝ }
+    ensures { λ r. ⌜ r ≡ fedOn rate n (now (part .entry)) x ⌝ }
+{
+    let k = rate.left.places;
+    let e = part.len();
+    let left = leaving(rate.left, &part[0..k], n);
+    let right = leaving(rate.right, &part[k..e], n);
+    Frame {
+        left: x + rate.decay * right,
+        right: x + rate.decay * left,
+    }
+}
+
+// Both halves, each on its own places.
+fn halves(rate: PlateRate, tank: Tank, part: &mut [f64], fed: Frame, stretch: Frame, n: u64) -> Tank
+    requires { ⌜ PlateUsable rate ⌝ }
+    requires { ⌜ (length (now part) ≡ rate .left .places + rate .right .places) × (n < 4294967296) ⌝ }
+    ensures { λ r. ⌜ tankIn r (now (part .exit)) ≡ halvesOn rate n (tankIn tank (now (part .entry))) fed stretch ⌝ }
+{
+    let k = rate.left.places;
+    let e = part.len();
+    let left = half(
+        rate.left,
+        rate.decay,
+        rate.diffusion,
+        tank.left,
+        &mut part[0..k],
+        fed.left,
+        stretch.left,
+        n,
+    );
+    let right = half(
+        rate.right,
+        rate.decay,
+        rate.diffusion,
+        tank.right,
+        &mut part[k..e],
+        fed.right,
+        stretch.right,
+        n,
+    );
+    Tank { left, right }
+}
+
+// Both sides' taps, n samples being pushed.
+fn returned(rate: PlateRate, part: &[f64], n: u64) -> Frame
+    requires { ⌜ PlateUsable rate ⌝ }
+    requires { ⌜ length (now part) ≡ rate .left .places + rate .right .places ⌝ }
+    ensures { λ r. ⌜ r ≡ returnedOn rate n (now (part .entry)) ⌝ }
+{
+    let k = rate.left.places;
+    let e = part.len();
+    let left = taps(
+        rate.left.taps,
+        rate.right,
+        rate.left,
+        &part[k..e],
+        &part[0..k],
+        n,
+    );
+    let right = taps(
+        rate.right.taps,
+        rate.left,
+        rate.right,
+        &part[0..k],
+        &part[k..e],
+        n,
+    );
+    Frame { left, right }
+}
+
+// The tank's step: x comes from the input lattices.
+fn tank_step(rate: PlateRate, tank: Tank, part: &mut [f64], x: f64, n: u64) -> TankGave
+    requires { ⌜ PlateUsable rate ⌝ }
+    requires { ⌜ (length (now part) ≡ rate .left .places + rate .right .places) × (n < 4294967296) ⌝ }
+    ensures { λ r. ⌜ gave (tankIn (r .tank) (now (part .exit))) (r .frame) ≡ tankOn rate n (tankIn tank (now (part .entry))) x ⌝ }
+{
+    let f = fed(rate, part, x, n);
+    let s = stretch(rate, n);
+    let tank = halves(rate, tank, part, f, s, n);
+    let frame = returned(rate, part, n + 1);
+    TankGave { tank, frame }
+}
+
+// One sample: x is what is sent, and n the samples before it.
+pub fn step(rate: PlateRate, plate: Plate, part: &mut [f64], x: f64, n: u64) -> PlateGave
+    requires { ⌜ PlateUsable rate ⌝ }
+    requires { ⌜ (length (now part) ≡ partOf rate) × (n < 4294967296) ⌝ }
+    ensures { λ r. ⌜ gave (plateOn (r .plate) (now (part .exit))) (r .frame) ≡ plateStepOn rate n (plateOn plate (now (part .entry))) x ⌝ }
+{
+    let k = rate.input.places;
+    let e = part.len();
+    let y = input(rate.input, &mut part[0..k], x, n);
+    let t = tank_step(rate, plate.tank, &mut part[k..e], y, n);
+    let left = plate.left.step(t.frame.left);
+    let right = plate.right.step(t.frame.right);
+    let tank = t.tank;
+    PlateGave {
+        plate: Plate { tank, left, right },
+        frame: Frame {
+            left: left.y1,
+            right: right.y1,
+        },
+    }
+}
+
+// A block: what is sent lies in left, and the two sides take its place and right's.
+pub fn block(
+    rate: PlateRate,
+    plate: Plate,
+    part: &mut [f64],
+    left: &mut [f64],
+    right: &mut [f64],
+    n: u64,
+) -> Plate
+    requires { ⌜ PlateUsable rate ⌝ }
+    requires { ⌜ (length (now part) ≡ partOf rate) × (length (now right) ≡ length (now left)) × (n + length (now left) ≤ 4294967296) ⌝ }
+    ensures { λ r. ⌜ plateOn r (now (part .exit)) ≡ ran (plateStepOn rate) n (plateOn plate (now (part .entry))) (now (left .entry)) ⌝ }
+    ensures { λ r. ⌜ now (left .exit) ≡ map (λ (f : Frame). f .left) (outs (plateStepOn rate) n (plateOn plate (now (part .entry))) (now (left .entry))) ⌝ }
+    ensures { λ r. ⌜ now (right .exit) ≡ map (λ (f : Frame). f .right) (outs (plateStepOn rate) n (plateOn plate (now (part .entry))) (now (left .entry))) ⌝ }
+{
+    let mut plate = plate;
+    let mut i = 0;
+    while i < left.len() {
+        let g = step(rate, plate, part, left[i], n + i as u64);
+        plate = g.plate;
+        left[i] = g.frame.left;
+        right[i] = g.frame.right;
+        i += 1;
+    }
+    plate
+}
+
+impl Plate {
+    // A plate whose filters' pasts are zero.
+    pub fn new(rate: PlateRate) -> Plate
+        ensures { λ r. ⌜ r ≡ freshOn rate ⌝ }
+    {
+        let damping = OnePole {
+            pole: rate.damping,
+            y: 0.0,
+        };
+        let section = Section::new(rate.highpass);
+        Plate {
+            tank: Tank {
+                left: damping,
+                right: damping,
+            },
+            left: section,
+            right: section,
+        }
+    }
+
+    // Whether its filters' pasts hold only zeros.
+    fn quiet(self) -> bool
+        ensures { λ r. ⌜ r ≡ quietOf self ⌝ }
+    {
+        if self.tank.left.at_rest() {
+            if self.tank.right.at_rest() {
+                if self.left.at_rest() {
+                    return self.right.at_rest();
+                }
+            }
+        }
+        false
+    }
+}
+
+// Whether every line and filter holds only zeros.
+pub fn at_rest(plate: Plate, part: &[f64]) -> bool
+    ensures { λ r. ⌜ r ≡ atRestOn (plateOn plate (now (part .entry))) ⌝ }
+{
+    if delay::at_rest(part) {
+        return plate.quiet();
+    }
+    false
+}

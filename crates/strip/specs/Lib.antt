@@ -1,0 +1,5 @@
+-- The refusals, the one-sample machine, the four calls, and the promise about every list of them.
+pub mod Refusals
+pub mod Machine
+pub mod Calls
+pub mod Promise

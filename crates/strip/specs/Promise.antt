@@ -1,0 +1,165 @@
+-- Demand 3: a list of calls, what it is answered, and what the machine says to it. The theorem is `Joined`, proved in proofs/Joined.antt.
+use Prim.Native.Nat.{ℕ, _+_, _-_, _*_, _<_, _≤_, suc}
+use mathlib.Core.Path.{_≡_}
+use mathlib.Core.Bool.{Bool, cond}
+use mathlib.Core.List.{List, [], _∷_, _++_, map}
+use lib.Dec.{eqb}
+use lib.ListN.{length, getD}
+use lib.Ieee.{Float}
+use Rattle.casts.specs.Step.{stepOf}
+use Rattle.stream.specs.declared.Frame.{Frame}
+use Rattle.rate.specs.declared.Rate.{Rate}
+use Rattle.tape.specs.Tape.{Lists, tapeStep}
+use Rattle.master.specs.declared.Heard.{Heard}
+use Rattle.master.specs.Ceiling.{needOf, silence}
+use Rattle.master.specs.Kept.{framesOut, countsOut}
+use Rattle.strip.specs.declared.Setup.{Setup}
+use Rattle.strip.specs.declared.Controls.{Controls}
+use Rattle.strip.specs.declared.Strip.{Strip}
+use Rattle.strip.specs.declared.Opened as opened
+use Rattle.strip.specs.declared.Outcome.{Outcome}
+use Rattle.strip.specs.declared.Outcome.the-variants.{Now, Declined}
+use Rattle.strip.specs.declared.Rested as rested
+use Rattle.strip.specs.declared.Rested.{Rested}
+use Rattle.strip.specs.Refusals.{runRefusal, latchRefusal}
+use Rattle.strip.specs.Machine.{Machine, Event, sample, latch, fresh, mixedStep, fed, fedAll, heardFrom, resting}
+use Rattle.strip.specs.Calls.{State, state, openCall, runCall, latchCall, restCall}
+
+-- ---- a list of calls
+
+pub data Call : Type 0 where
+  -- samples, drums, and the two outputs as they are lent
+  run : List Float → Bool → List Float → List ℕ → Call
+  move : Controls → Call
+  ask : Call
+
+-- "Joined frames and joined gain counts are those that the accepted runs wrote, in order, each taken as its run returned."
+pub data Answer : Type 0 where
+  ran : List Float → List ℕ → Answer
+  moved : Answer
+  rests : Bool → Answer
+  declined : ℕ → Answer
+
+-- "In a list of calls each is lent the strip and stores just as the call before left them": a declined call hands back the strip that came
+abbrev pub stripOf : Outcome → Strip
+stripOf (Now s) = s
+stripOf (Declined k s) = s
+
+abbrev pub runAnswer : Outcome → List Float → List ℕ → Answer
+runAnswer (Now s) frames gains = ran frames gains
+runAnswer (Declined k s) frames gains = declined k
+
+abbrev pub moveAnswer : Outcome → Answer
+moveAnswer (Now s) = moved
+moveAnswer (Declined k s) = declined k
+
+abbrev pub restAnswer : Rested → Answer
+restAnswer (rested.the-variants.Rests b) = rests b
+restAnswer (rested.the-variants.Declined k) = declined k
+
+unfoldable pub answerTo : Rate → State → Call → Answer
+answerTo r st (run xs d frames gains) = let o = runCall r st xs d frames gains in runAnswer (o .answer) (o .frames) (o .gains)
+answerTo r st (move c) = moveAnswer (latchCall r st c)
+answerTo r st ask = restAnswer (restCall r st)
+
+unfoldable pub after : Rate → State → Call → State
+after r st (run xs d frames gains) = let o = runCall r st xs d frames gains in state (stripOf (o .answer)) (o .store) (o .counts)
+after r st (move c) = state (stripOf (latchCall r st c)) (st .store) (st .counts)
+after r st ask = st
+
+unfoldable pub through : Rate → State → List Call → List Answer
+through r st [] = []
+through r st (c ∷ cs) = answerTo r st c ∷ through r (after r st c) cs
+
+-- ---- the same list, put to the machine
+
+-- "its number is the one that the refusals give, with n as the position, and 4 declines no call of such a list"
+unfoldable pub refusal : ℕ → Call → ℕ
+refusal n (run xs d frames gains) = runRefusal n xs (length frames) (length gains)
+refusal n (move c) = latchRefusal c
+refusal n ask = 0
+
+unfoldable pub eventsOf : Call → List Event
+eventsOf (run xs d frames gains) = map (λ x. sample x d) xs
+eventsOf (move c) = latch c ∷ []
+eventsOf ask = []
+
+-- "A declined call changes nothing either"
+unfoldable pub feeds : ℕ → Call → List Event
+feeds n c = cond (eqb (refusal n c) 0) (eventsOf c) []
+
+unfoldable pub accepted : Rate → Machine → Call → Answer
+accepted r m (run xs d frames gains) = let h = heardFrom r m (map (λ x. sample x d) xs) in ran (framesOut h) (countsOut h)
+accepted r m (move c) = moved
+accepted r m ask = rests (resting m)
+
+unfoldable pub says : Rate → Machine → Call → Answer
+says r m c = cond (eqb (refusal (m .position) c) 0) (accepted r m c) (declined (refusal (m .position) c))
+
+unfoldable pub expected : Rate → Machine → List Call → List Answer
+expected r m [] = []
+expected r m (c ∷ cs) = says r m c ∷ expected r (fedAll r m (feeds (m .position) c)) cs
+
+-- ---- the promise
+
+-- "A list of calls starts with the strip and stores just as open left them, and with the machine fresh under the same setup, points and kicks."
+-- For every setup, lists and stores from which open gives a strip, and for every list of calls: every answer is the machine's. Floats are equal as values, all NaNs being one.
+pub Joined : Rate → Type 0
+Joined r =
+    (s : Setup) (l : Lists) (store : List Float) (counts : List ℕ) (t : Strip) → openCall r s l store counts .answer ≡ opened.the-variants.Strip t
+    → (cs : List Call) → through r (state t (openCall r s l store counts .store) (openCall r s l store counts .counts)) cs ≡ expected r (fresh r s l) cs
+
+-- ---- joined frames and counts
+
+abbrev pub framesIn : Answer → List Float
+framesIn (ran frames gains) = frames
+framesIn moved = []
+framesIn (rests b) = []
+framesIn (declined k) = []
+
+abbrev pub countsIn : Answer → List ℕ
+countsIn (ran frames gains) = gains
+countsIn moved = []
+countsIn (rests b) = []
+countsIn (declined k) = []
+
+unfoldable pub joinedFrames : List Answer → List Float
+joinedFrames [] = []
+joinedFrames (a ∷ l) = framesIn a ++ joinedFrames l
+
+unfoldable pub joinedCounts : List Answer → List ℕ
+joinedCounts [] = []
+joinedCounts (a ∷ l) = countsIn a ++ joinedCounts l
+
+-- the samples and latches that the machine is fed, which the positions alone pick out
+unfoldable pub takes : ℕ → Call → ℕ
+takes n (run xs d frames gains) = cond (eqb (runRefusal n xs (length frames) (length gains)) 0) (n + length xs) n
+takes n (move c) = n
+takes n ask = n
+
+unfoldable pub joinedEvents : ℕ → List Call → List Event
+joinedEvents n [] = []
+joinedEvents n (c ∷ cs) = feeds n c ++ joinedEvents (takes n c) cs
+
+-- the joined frames and counts are what the fresh machine delivers for the joined samples and latches, however they are divided into calls
+pub record JoinedAre (r : Rate) (s : Setup) (l : Lists) (cs : List Call) (answers : List Answer) : Type 0 where
+  pub frames : joinedFrames answers ≡ framesOut (heardFrom r (fresh r s l) (joinedEvents 0 cs))
+  pub counts : joinedCounts answers ≡ countsOut (heardFrom r (fresh r s l) (joinedEvents 0 cs))
+
+-- ---- the gain bound
+
+-- the frames (y + l, y + r) that the machine's ceiling is given
+unfoldable pub mixes : Rate → Machine → Event → List Frame
+mixes r m (sample x d) =
+    mixedStep (r .plate) (m .setup .send) (m .position) (m .plate) (tapeStep (r .tape) (m .setup .tape) (m .daylight) (m .rain) (m .lists) d (m .position) (m .tape) x .out) .out ∷ []
+mixes r m (latch c) = []
+
+unfoldable pub mixedFrom : Rate → Machine → List Event → List Frame
+mixedFrom r m [] = []
+mixedFrom r m (e ∷ es) = mixes r m e ++ mixedFrom r (fed r m e) es
+
+-- "a delivered frame's need is that of the frame 220 back which it comes from": each joined count after the first 220 is at most 221 times the whole part of 2^40 · that need
+pub Bounded : Rate → Type 0
+Bounded r =
+    (s : Setup) (l : Lists) (es : List Event) (i : ℕ) → i < length (heardFrom r (fresh r s l) es) → r .ceiling .ahead ≤ i
+    → getD (countsOut (heardFrom r (fresh r s l) es)) i 0 ≤ suc (r .ceiling .ahead) * stepOf (needOf (r .ceiling) (getD (mixedFrom r (fresh r s l) es) (i - r .ceiling .ahead) silence))
