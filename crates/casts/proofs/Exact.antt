@@ -1,13 +1,13 @@
 -- What a format holds, rounded to the format, is itself. Assumes nothing.
 use mathlib.Core.Path.{_≡_, refl, sym, ap, _∙_, subst}
-use Prim.Native.Nat.{ℕ, zero, suc, _+_, _-_, _*_, _/_, _%_, _^_, _≤_, _<_}
-use native.Mathlib.Nat.{le-trans, lt-of-lt-of-le, lt-of-le-of-lt, lt-irrefl, lt-of-not-le, add-comm, zero-mul, mul-one, mul-assoc, mul-lt-mul-of-pos-right, sub-add-cancel}
+use Prim.Native.Nat.{ℕ, zero, suc, _+_, _-_, _*_, _%_, _^_, _≤_, _<_}
+use native.Mathlib.Nat.{lt-of-lt-of-le, lt-irrefl, add-comm, zero-mul, mul-one, mul-assoc, mul-lt-mul-of-pos-right, sub-add-cancel}
 use native.Mathlib.Omega.{arith}
 use mathlib.Core.Bool.{Bool, _&&_}
 use lib.IntN.{ℤ, pos, negsuc}
 use lib.Dec.{T, ltb, leb, eqb, ltb→lt, leb→le}
 use lib.Pow.{pow-add, pow-pos, pow-mono, pow-lt, shl-lt}
-use lib.Ieee.{Float, fin, Format, prec, emax, low, up, down, round, fits}
+use lib.Ieee.{fin, Format, prec, emax, low, up, down, round, fits}
 use lib.Ieee.Fits.{down-pos, and-l, and-r, reach, round-fits}
 use lib.Ieee.Exact.{HasValue, round-exact}
 use Rattle.casts.specs.Same.{same-value}

@@ -1,23 +1,25 @@
--- The floor from the whole part t: t below x is the floor, t equal to x leaves x as it is, and t above x is one too large. Assumes nothing.
+-- The floor by bits: an f64 pattern whose exponent's field is 1075 - k has k digits below 1, and with these cleared it is the whole part's. Assumes nothing.
 use mathlib.Core.Path.{_≡_, refl, sym, ap, _∙_, subst}
-use Prim.Native.Nat.{ℕ, zero, suc, _+_, _-_, _*_, _/_, _%_, _^_, _≤_, _<_, min}
-use native.Mathlib.Nat.{le-refl, le-trans, le-of-eq, le-of-lt, lt-of-lt-of-le, lt-of-le-of-lt, mul-one, one-mul, add-mul, zero-mul, mul-right-comm, mul-div-cancel, mul-le-mul-right, mul-lt-mul-of-pos-right, lt-of-mul-lt-mul-right, eq-of-mul-eq-mul-right, eq-or-lt-of-le, div-add-mod', mod-lt, le-div-iff-mul-le, div-lt-iff-lt-mul, pow-succ'}
+use Prim.Native.Nat.{ℕ, zero, suc, _+_, _-_, _*_, _/_, _%_, _^_, _≤_, _<_}
+use native.Mathlib.Nat.{le-trans, le-of-eq, le-of-lt, lt-of-lt-of-le, eq-or-lt-of-le, add-comm, mul-one, one-mul, add-mul, zero-mul, mul-assoc, mul-right-comm, mul-pos, mul-div-cancel, mul-le-mul-left, mul-le-mul-right, mul-lt-mul-of-pos-right, lt-of-mul-lt-mul-right, eq-of-mul-eq-mul-right, div-mul-le-self, div-add-mod', mod-lt, mod-eq-of-lt, le-div-iff-mul-le, div-lt-iff-lt-mul, add-mul-div-right, pow-succ'}
 use mathlib.Core.Logic.{_⊎_, inl, inr}
 use native.Mathlib.Omega.{arith}
-use mathlib.Core.Bool.{Bool, true, false, not, _&&_, _||_, Bool·beq, cond, true≢false}
-use lib.IntN.{ℤ, pos, negsuc, negℤ}
-use lib.Dec.{T, ltb, eqb, ltb→lt, lt→ltb, eqb→eq, lit≤}
+use mathlib.Core.Bool.{Bool, true, false, cond, true≢false}
+use lib.IntN.{ℤ, pos, negsuc}
+use lib.Dec.{T, ltb, lit≤}
 use lib.Arith.{digits-div}
-use lib.Pow.{pow-pos}
+use lib.Pow.{pow-add, pow-pos, pow-mono, shl-lt}
 use borrow.Author.Tests.{ltb-true, ltb-false}
-use lib.Ieee.{Float, nan, inf, fin, binary64, up, down, round, neg, le, lt, eq, level, toSigned, ofInt, fits}
-use lib.Ieee.Fits.{up-pos, down-pos, eq→eqb, and-i, and-l, and-r}
+use lib.Ieee.{Float, inf, fin, binary64, up, down, round, ofBits, fits}
+use lib.Ieee.Fits.{down-pos, round-fits}
+use lib.Ieee.Bits.{ofBits-fits}
 use lib.Ieee.Exact.{HasValue}
 use lib.Ieee.Back.{round-whole}
+use lib.Ieee.Nearest.{div-same}
 use lib.Ieee.Scale.{round-same}
-use Rattle.casts.specs.Cast.{floored}
-use Rattle.casts.specs.Order.{says-le}
+use Rattle.casts.specs.Cast.{floored, signed, Floors}
 use Rattle.casts.proofs.Exact.{few-digits, round-own}
+use Rattle.casts.proofs.Pattern.{reads-low, reads-mid, reads-inf, at-unit, writes}
 
 -- ---- a whole number stays
 ceil-at : (n d w : ℕ) → 0 < d → w * d ≡ n → (n + (d - 1)) / d ≡ w
@@ -49,158 +51,6 @@ no-places s (suc m) (negsuc k) t h = absurd (many (suc m) (2 ^ k) (2 ^ suc k) (p
 stays : (s : Bool) (m : ℕ) (e : ℤ) → T (fits binary64 (fin s m e)) → 4503599627370496 * down e ≤ m * up e → fin s m e ≡ floored (fin s m e)
 stays s m e t h = let c = no-places s m e t h in whole-stays s m e (c .0) t (c .1)
 
-pub stays-above : (x : Float) → T (fits binary64 x) → lt x (fin false 1 (pos 52)) ≡ false → x ≡ floored x
-unfolding lt floored
-stays-above nan t h = refl
-stays-above (inf true) t h = refl
-stays-above (inf false) t h = refl
-stays-above (fin true m e) t h = absurd (omega (arith, ltb-false 0 (m * up e * 1 + 1 * 2 ^ 52 * down e) h, down-pos e))
-stays-above (fin false m e) t h = stays false m e t (omega (arith, ltb-false (m * up e * 1) (1 * 2 ^ 52 * down e) h))
-
-pub stays-below : (x : Float) → T (fits binary64 x) → lt (fin true 1 (pos 52)) x ≡ false → x ≡ floored x
-unfolding lt floored
-stays-below nan t h = refl
-stays-below (inf true) t h = refl
-stays-below (inf false) t h = refl
-stays-below (fin false m e) t h = absurd (omega (arith, ltb-false 0 (1 * 2 ^ 52 * down e + m * up e * 1) h, down-pos e))
-stays-below (fin true m e) t h = stays true m e t (omega (arith, ltb-false (m * up e * 1) (1 * 2 ^ 52 * down e) h))
-
--- ---- a size below 2 ^ 52
-pub record Inside (x : Float) : Type 0 where
-  pub sign : Bool
-  pub digits : ℕ
-  pub place : ℤ
-  pub is : x ≡ fin sign digits place
-  pub under : digits * up place < 4503599627370496 * down place
-
-pub inside : (x : Float) → lt x (fin false 1 (pos 52)) ≡ true → lt (fin true 1 (pos 52)) x ≡ true → Inside x
-unfolding lt
-inside nan a b = absurd (subst T (sym a) tt)
-inside (inf true) a b = absurd (subst T (sym b) tt)
-inside (inf false) a b = absurd (subst T (sym a) tt)
-inside (fin false m e) a b = record { sign = false; digits = m; place = e; is = refl; under = omega (arith, ltb-true (m * up e * 1) (1 * 2 ^ 52 * down e) a) }
-inside (fin true m e) a b = record { sign = true; digits = m; place = e; is = refl; under = omega (arith, ltb-true (m * up e * 1) (1 * 2 ^ 52 * down e) b) }
-
--- what the cast to an i64 asks
-asks : (s : Bool) (m : ℕ) (e : ℤ) → m * up e < 4503599627370496 * down e → T (le (fin true 1 (pos 63)) (fin s m e)) × T (lt (fin s m e) (fin false 1 (pos 63)))
-unfolding le lt
-asks false m e h = (says-le true (1 * 2 ^ 63 * down e) false (m * up e * 1) tt, lt→ltb (m * up e * 1) (1 * 2 ^ 63 * down e) (omega arith))
-asks true m e h = (says-le true (1 * 2 ^ 63 * down e) true (m * up e * 1) (omega arith), lt→ltb 0 (m * up e * 1 + 1 * 2 ^ 63 * down e) (omega (arith, down-pos e)))
-
-pub inside-asks : (x : Float) → Inside x → T (le (fin true 1 (pos 63)) x) × T (lt x (fin false 1 (pos 63)))
-inside-asks x i = subst (λ (y : Float). T (le (fin true 1 (pos 63)) y) × T (lt y (fin false 1 (pos 63)))) (sym (i .is)) (asks (i .sign) (i .digits) (i .place) (i .under))
-
--- ---- the whole part of the size, as a float, beside the size
-module _ (m : ℕ) (e : ℤ) (under : m * up e < 4503599627370496 * down e) where
-  abbrev part : ℕ
-  part = m * up e / down e
-
-  part-lt : part < 4503599627370496
-  part-lt = div-lt-iff-lt-mul (down-pos e) .1 under
-
-  part-le : part * down e ≤ m * up e
-  part-le = le-div-iff-mul-le (down-pos e) .0 (le-refl part)
-
-  cut-false : toSigned 63 (fin false m e) ≡ pos part
-  unfolding toSigned
-  cut-false = ap pos (few part part-lt)
-    where
-      few : (n : ℕ) → n < 4503599627370496 → min n (2 ^ 63 - 1) ≡ n
-      few n h = omega arith
-
-  cut-true : toSigned 63 (fin true m e) ≡ negℤ (pos part)
-  unfolding toSigned
-  cut-true = ap (λ (n : ℕ). negℤ (pos n)) (few part part-lt)
-    where
-      few : (n : ℕ) → n < 4503599627370496 → min n (2 ^ 63) ≡ n
-      few n h = omega arith
-
-  value : (u : Bool) → HasValue (round binary64 u part 1) u part 1
-  value u = round-whole binary64 u part (omega (arith, part-lt))
-
--- w is the size of t
-eq-says : (t : Float) (u s : Bool) (w m : ℕ) (e : ℤ) → HasValue t u w 1 → eq t (fin s m e) ≡ true → w * down e ≡ m * up e
-unfolding eq
-eq-says nan u s w m e v h = absurd v
-eq-says (inf i) u s w m e v h = absurd v
-eq-says (fin i a b) u s w m e v h =
-    let same : a * up b * down e ≡ m * up e * down b = eqb→eq (a * up b * down e) (m * up e * down b) (and-l (eqb (a * up b * down e) (m * up e * down b)) _ (subst T (sym h) tt)) in
-    eq-of-mul-eq-mul-right (down b) (down-pos b) (w * down e) (m * up e)
-    (mul-right-comm w (down e) (down b) ∙ ap (λ (x : ℕ). x * down e) (sym (v .1) ∙ mul-one (a * up b)) ∙ same)
-
-beq-refl : (s : Bool) → T (Bool·beq s s)
-beq-refl true = tt
-beq-refl false = tt
-
-or-l : (a b : Bool) → T a → T (a || b)
-or-l true b h = tt
-or-l false b h = absurd h
-
-says-eq : (t : Float) (s : Bool) (w m : ℕ) (e : ℤ) → HasValue t s w 1 → w * down e ≡ m * up e → T (eq t (fin s m e))
-unfolding eq
-says-eq nan s w m e v h = absurd v
-says-eq (inf i) s w m e v h = absurd v
-says-eq (fin i a b) s w m e v h =
-    and-i (eqb (a * up b * down e) (m * up e * down b)) (Bool·beq i s || eqb (a * up b * down e) 0)
-    (eq→eqb (ap (λ (x : ℕ). x * down e) (sym (mul-one (a * up b)) ∙ v .1) ∙ mul-right-comm w (down b) (down e) ∙ ap (λ (x : ℕ). x * down b) h))
-    (or-l (Bool·beq i s) (eqb (a * up b * down e) 0) (subst (λ (c : Bool). T (Bool·beq i c)) (v .0) (beq-refl i)))
-
--- t is the greater in size, where both are below 0
-lt-says : (t : Float) (w m : ℕ) (e : ℤ) → HasValue t true w 1 → lt t (fin true m e) ≡ true → m * up e < w * down e
-unfolding lt
-lt-says nan w m e v h = absurd v
-lt-says (inf i) w m e v h = absurd v
-lt-says (fin false a b) w m e v h = absurd (true≢false (sym (v .0)))
-lt-says (fin true a b) w m e v h =
-    let q : a * up b ≡ w * down b = sym (mul-one (a * up b)) ∙ v .1 in
-    let l : m * up e * down b < a * up b * down e = ltb-true (m * up e * down b) (a * up b * down e) h in
-    lt-of-mul-lt-mul-right (down b) (rw (mul-right-comm w (down e) (down b), ← q) l)
-
-says-lt : (t : Float) (w m : ℕ) (e : ℤ) → HasValue t false w 1 → w * down e < m * up e → T (lt t (fin false m e))
-unfolding lt
-says-lt nan w m e v h = absurd v
-says-lt (inf i) w m e v h = absurd v
-says-lt (fin true a b) w m e v h = absurd (true≢false (v .0))
-says-lt (fin false a b) w m e v h =
-    let q : a * up b ≡ w * down b = sym (mul-one (a * up b)) ∙ v .1 in
-    lt→ltb (a * up b * down e) (m * up e * down b) (rw (q, mul-right-comm w (down b) (down e)) (mul-lt-mul-of-pos-right h (down-pos b)))
-
--- 0 - n as a float, n above 0, is below 0; 0 is not below a value that is below 0
-zero-over : (m : ℕ) (e : ℤ) → lt (ofInt binary64 (pos 0)) (fin true m e) ≡ true → ⊥
-unfolding lt ofInt round
-zero-over m e h = true≢false (sym h)
-
-no-over : (m : ℕ) (e : ℤ) (under : m * up e < 4503599627370496 * down e) (n : ℕ) → part m e under ≡ n → lt (ofInt binary64 (negℤ (pos n))) (fin true m e) ≡ true → ⊥
-unfolding ofInt
-no-over m e under zero z h = zero-over m e h
-no-over m e under (suc n) z h =
-    let v : HasValue (round binary64 true (suc n) 1) true (suc n) 1 = subst (λ (k : ℕ). HasValue (round binary64 true k 1) true k 1) z (value m e under true) in
-    let l = lt-says (round binary64 true (suc n) 1) (suc n) m e v h in
-    let g : suc n * down e ≤ m * up e = subst (λ (k : ℕ). k * down e ≤ m * up e) z (part-le m e under) in
-    omega arith
-
--- ---- the three answers, for k the whole part and t the float of k
-below-at : (s : Bool) (m : ℕ) (e : ℤ) → m * up e < 4503599627370496 * down e → lt (ofInt binary64 (toSigned 63 (fin s m e))) (fin s m e) ≡ true → ofInt binary64 (toSigned 63 (fin s m e)) ≡ floored (fin s m e)
-unfolding floored ofInt
-below-at false m e u h = ap (ofInt binary64) (cut-false m e u)
-below-at true m e u h = absurd (no-over m e u (part m e u) refl (subst (λ (k : ℤ). lt (ofInt binary64 k) (fin true m e) ≡ true) (cut-true m e u) h))
-
-level-at : (s : Bool) (m : ℕ) (e : ℤ) → m * up e < 4503599627370496 * down e → eq (ofInt binary64 (toSigned 63 (fin s m e))) (fin s m e) ≡ true → m * up e / down e * down e ≡ m * up e
-unfolding ofInt
-level-at false m e u h = eq-says (round binary64 false (part m e u) 1) false false (part m e u) m e (value m e u false) (subst (λ (k : ℤ). eq (ofInt binary64 k) (fin false m e) ≡ true) (cut-false m e u) h)
-level-at true m e u h = go (part m e u) refl (subst (λ (k : ℤ). eq (ofInt binary64 k) (fin true m e) ≡ true) (cut-true m e u) h)
-  where
-    go : (n : ℕ) → part m e u ≡ n → eq (ofInt binary64 (negℤ (pos n))) (fin true m e) ≡ true → part m e u * down e ≡ m * up e
-    go zero z h = rw z (eq-says (round binary64 false 0 1) false true 0 m e (round-whole binary64 false 0 (omega arith)) h)
-    go (suc n) z h = rw z (eq-says (round binary64 true (suc n) 1) true true (suc n) m e (subst (λ (k : ℕ). HasValue (round binary64 true k 1) true k 1) z (value m e u true)) h)
-
--- k is -n, and -(n + 1) is the floor
-pub record Over (x : Float) : Type 0 where
-  pub part' : ℕ
-  pub small : part' < 4503599627370496
-  pub cut : toSigned 63 x ≡ negℤ (pos part')
-  pub floor-is : ofInt binary64 (negsuc part') ≡ floored x
-
 ceil-over : (n d : ℕ) → 0 < d → n / d * d < n → (n + (d - 1)) / d ≡ suc (n / d)
 ceil-over n d D h =
     let r : n % d < d = mod-lt n D in
@@ -217,61 +67,255 @@ ceil-over n d D h =
         plus : (q : ℕ) → q + 1 ≡ suc q
         plus q = omega arith
 
-floor-true : (m : ℕ) (e : ℤ) (n : ℕ) → (m * up e + (down e - 1)) / down e ≡ suc n → round binary64 true (suc n) 1 ≡ floored (fin true m e)
+-- ---- `floored` sees only the value
+ceil-same : (a b c d : ℕ) → 0 < b → 0 < d → a * d ≡ c * b → (a + (b - 1)) / b ≡ (c + (d - 1)) / d
+ceil-same a b c d B D h = go (eq-or-lt-of-le (div-mul-le-self a b))
+  where
+    same : a / b ≡ c / d
+    same = div-same a b c d B D h
+
+    go : (a / b * b ≡ a) ⊎ (a / b * b < a) → (a + (b - 1)) / b ≡ (c + (d - 1)) / d
+    go (inl z) =
+        ceil-at a b (a / b) B z
+        ∙ sym (ceil-at c d (a / b) D (eq-of-mul-eq-mul-right b B (a / b * d) c (mul-right-comm (a / b) d b ∙ ap (λ (x : ℕ). x * d) z ∙ h)))
+    go (inr l) =
+        ceil-over a b B l
+        ∙ ap suc same
+        ∙ sym (ceil-over c d D (subst (λ (q : ℕ). q * d < c) same (lt-of-mul-lt-mul-right b (rw (mul-right-comm (a / b) d b, ← h) (mul-lt-mul-of-pos-right l D)))))
+
+floored-at : (v : Float) (s : Bool) (a c : ℕ) → 0 < c → HasValue v s a c → floored v ≡ round binary64 s (cond s ((a + (c - 1)) / c) (a / c)) 1
 unfolding floored
-floor-true m e n z = ap (λ (n : ℕ). round binary64 true n 1) (sym z)
+floored-at (fin true m e) false a c C h = absurd (true≢false (h .0))
+floored-at (fin false m e) true a c C h = absurd (true≢false (sym (h .0)))
+floored-at (fin false m e) false a c C h = ap (λ (n : ℕ). round binary64 false n 1) (div-same (m * up e) (down e) a c (down-pos e) C (h .1))
+floored-at (fin true m e) true a c C h = ap (λ (n : ℕ). round binary64 true n 1) (ceil-same (m * up e) (down e) a c (down-pos e) C (h .1))
 
--- a zero is equal to a zero of the other sign
-zeros-equal : (m : ℕ) (e : ℤ) → m * up e ≡ 0 → T (eq (ofInt binary64 (pos 0)) (fin true m e))
-unfolding eq ofInt round
-zeros-equal m e q = rw (zero-mul (down e), q) tt
+-- ---- k digits below 1, k from 1 to 52: the exponent's field is x + 1, and x + k = 1074
+module _ (s : Bool) (m x k : ℕ) (e : m / 4503599627370496 ≡ suc x) (p : x + k ≡ 1074) (hi : k ≤ 52) where
+  abbrev D : ℕ
+  D = 4503599627370496 + m % 4503599627370496
 
-equal : (m : ℕ) (e : ℤ) (u : m * up e < 4503599627370496 * down e) (n : ℕ) → part m e u ≡ n → part m e u * down e ≡ m * up e → T (eq (ofInt binary64 (negℤ (pos n))) (fin true m e))
-unfolding ofInt
-equal m e u zero z h = zeros-equal m e (sym h ∙ ap (λ (k : ℕ). k * down e) z ∙ zero-mul (down e))
-equal m e u (suc n) z h = says-eq (round binary64 true (suc n) 1) true (suc n) m e (subst (λ (k : ℕ). HasValue (round binary64 true k 1) true k 1) z (value m e u true)) (sym (ap (λ (k : ℕ). k * down e) z) ∙ h)
+  abbrev v : Float
+  v = ofBits binary64 (signed binary64 s m)
 
-over-at : (s : Bool) (m : ℕ) (e : ℤ) → m * up e < 4503599627370496 * down e → lt (ofInt binary64 (toSigned 63 (fin s m e))) (fin s m e) ≡ false → eq (ofInt binary64 (toSigned 63 (fin s m e))) (fin s m e) ≡ false → Over (fin s m e)
-unfolding ofInt
-over-at false m e u a b = absurd (go (eq-or-lt-of-le (part-le m e u)))
+  m-is : m ≡ D + x * 4503599627370496
+  m-is = omega (arith, e)
+
+  D-most : D < 9007199254740992
+  D-most = omega arith
+
+  value : HasValue v s D (2 ^ k)
+  value = at-unit v s (D * 2 ^ x) (2 ^ 1074) D (2 ^ k) (pow-pos 1074) (sym (mul-assoc D (2 ^ x) (2 ^ k) ∙ ap (λ (y : ℕ). D * y) (sym (pow-add 2 x k) ∙ ap (λ (y : ℕ). 2 ^ y) p))) (reads-mid binary64 s m x (omega (arith, e, p)) e (omega (arith, p)))
+
+  unit : 2 ^ (52 - k) * 2 ^ k ≡ 4503599627370496
+  unit = sym (pow-add 2 (52 - k) k) ∙ ap (λ (y : ℕ). 2 ^ y) (back k hi)
+    where
+      back : (k : ℕ) → k ≤ 52 → 52 - k + k ≡ 52
+      back k h = omega arith
+
+  -- the pattern of n, a whole number of at most 53 digits whose lowest k are clear
+  put : (n : ℕ) → floored v ≡ round binary64 s n 1 → n * 2 ^ k ≤ 9007199254740992 → 4503599627370496 ≤ n * 2 ^ k → ofBits binary64 (signed binary64 s (x * 4503599627370496 + n * 2 ^ k)) ≡ floored v
+  put n f most lead =
+      writes binary64 (round binary64 s n 1) s (n * 2 ^ k) x (round-fits binary64 s n 1)
+      (at-unit (round binary64 s n 1) s n 1 (n * 2 ^ k * 2 ^ x) (2 ^ 1074) (omega arith)
+      (mul-one (n * 2 ^ k * 2 ^ x) ∙ mul-assoc n (2 ^ k) (2 ^ x) ∙ ap (λ (y : ℕ). n * y) (sym (pow-add 2 k x) ∙ ap (λ (y : ℕ). 2 ^ y) (add-comm k x ∙ p)))
+      (round-whole binary64 s n (le-trans (le-trans (le-of-eq (sym (mul-one n))) (mul-le-mul-left n (pow-pos k))) most))) most (inr lead)
+      ∙ sym f
+
+  -- the pattern with its lowest k digits cleared, for the digits d
+  clear : (d : ℕ) → (d + x * 4503599627370496) / 2 ^ k * 2 ^ k ≡ x * 4503599627370496 + d / 2 ^ k * 2 ^ k
+  clear d =
+      let y : x * 2 ^ (52 - k) * 2 ^ k ≡ x * 4503599627370496 = mul-assoc x (2 ^ (52 - k)) (2 ^ k) ∙ ap (λ (z : ℕ). x * z) unit in
+      ap (λ (z : ℕ). (d + z) / 2 ^ k * 2 ^ k) (sym y)
+      ∙ ap (λ (z : ℕ). z * 2 ^ k) (add-mul-div-right d (x * 2 ^ (52 - k)) (pow-pos k))
+      ∙ add-mul (d / 2 ^ k) (x * 2 ^ (52 - k)) (2 ^ k)
+      ∙ ap (λ (z : ℕ). d / 2 ^ k * 2 ^ k + z) y
+      ∙ add-comm (d / 2 ^ k * 2 ^ k) (x * 4503599627370496)
+
+  lead-of : (d : ℕ) → 4503599627370496 ≤ d → 4503599627370496 ≤ d / 2 ^ k * 2 ^ k
+  lead-of d h =
+      le-trans (le-of-eq (sym unit)) (mul-le-mul-right (2 ^ k) (le-div-iff-mul-le (pow-pos k) .1 (le-trans (le-of-eq unit) h)))
+
+  most-of : (d : ℕ) → d < 9007199254740992 + 2 ^ k → d / 2 ^ k * 2 ^ k ≤ 9007199254740992
+  most-of d h =
+      let u : 2 ^ (52 - k) * 2 * 2 ^ k ≡ 9007199254740992 = mul-right-comm (2 ^ (52 - k)) 2 (2 ^ k) ∙ ap (λ (z : ℕ). z * 2) unit in
+      let w : (2 ^ (52 - k) * 2 + 1) * 2 ^ k ≡ 9007199254740992 + 2 ^ k = add-mul (2 ^ (52 - k) * 2) 1 (2 ^ k) ∙ ap (λ (z : ℕ). z + 1 * 2 ^ k) u ∙ ap (λ (z : ℕ). 9007199254740992 + z) (one-mul (2 ^ k)) in
+      let l : d / 2 ^ k < 2 ^ (52 - k) * 2 + 1 = div-lt-iff-lt-mul (pow-pos k) .1 (subst (λ (z : ℕ). d < z) (sym w) h) in
+      le-trans (mul-le-mul-right (2 ^ k) (less l)) (le-of-eq u)
+    where
+      less : {a b : ℕ} → a < b + 1 → a ≤ b
+      less h = omega arith
+
+mid-field : (m : ℕ) → 1023 ≤ m / 4503599627370496 → m / 4503599627370496 ≡ suc (m / 4503599627370496 - 1)
+mid-field m h = omega arith
+
+mid-places : (m k : ℕ) → 1023 ≤ m / 4503599627370496 → m / 4503599627370496 < 1075 → k ≡ 1075 - m / 4503599627370496 → m / 4503599627370496 - 1 + k ≡ 1074
+mid-places m k a b e = omega arith
+
+wrapped : (n : ℕ) → n ≤ 9218868437227405312 → n % 18446744073709551616 ≡ n
+wrapped n h = mod-eq-of-lt (omega arith)
+
+-- x below 2 ^ 52 and 1 or more, rounded down
+pub floors-mid : (m k : ℕ) → 1023 ≤ m / 4503599627370496 → m / 4503599627370496 < 1075 → k ≡ 1075 - m / 4503599627370496 → Floors false m (m / 2 ^ k * 2 ^ k % 18446744073709551616)
+floors-mid m k lo hi z = subst (Floors false m) (sym (wrapped _ (small))) (record { small = small; same = subst (λ (r : ℕ). ofBits binary64 (signed binary64 false r) ≡ floored (ofBits binary64 (signed binary64 false m))) (sym is) (put false m x k e p h (d / 2 ^ k) (floored-at _ false d (2 ^ k) (pow-pos k) (value false m x k e p h)) most (lead-of false m x k e p h d (omega arith))) })
   where
-    a' : lt (round binary64 false (part m e u) 1) (fin false m e) ≡ false
-    a' = subst (λ (k : ℤ). lt (ofInt binary64 k) (fin false m e) ≡ false) (cut-false m e u) a
+    x : ℕ
+    x = m / 4503599627370496 - 1
 
-    b' : eq (round binary64 false (part m e u) 1) (fin false m e) ≡ false
-    b' = subst (λ (k : ℤ). eq (ofInt binary64 k) (fin false m e) ≡ false) (cut-false m e u) b
+    d : ℕ
+    d = 4503599627370496 + m % 4503599627370496
 
-    go : (part m e u * down e ≡ m * up e) ⊎ (part m e u * down e < m * up e) → ⊥
-    go (inl z) = subst T b' (says-eq (round binary64 false (part m e u) 1) false (part m e u) m e (value m e u false) z)
-    go (inr l) = subst T a' (says-lt (round binary64 false (part m e u) 1) (part m e u) m e (value m e u false) l)
-over-at true m e u a b = record {
-  part' = part m e u;
-  small = part-lt m e u;
-  cut = cut-true m e u;
-  floor-is = floor-true m e (part m e u) (ceil-over (m * up e) (down e) (down-pos e) (strict (eq-or-lt-of-le (part-le m e u))));
-}
+    e : m / 4503599627370496 ≡ suc x
+    e = mid-field m lo
+
+    p : x + k ≡ 1074
+    p = mid-places m k lo hi z
+
+    h : k ≤ 52
+    h = omega arith
+
+    most : d / 2 ^ k * 2 ^ k ≤ 9007199254740992
+    most = most-of false m x k e p h d (omega (arith, pow-pos k))
+
+    is : m / 2 ^ k * 2 ^ k ≡ x * 4503599627370496 + d / 2 ^ k * 2 ^ k
+    is = ap (λ (y : ℕ). y / 2 ^ k * 2 ^ k) (m-is false m x k e p h) ∙ clear false m x k e p h d
+
+    small : m / 2 ^ k * 2 ^ k ≤ 9218868437227405312
+    small = le-trans (le-of-eq is) (omega (arith, most))
+
+-- and rounded up
+pub raises-mid : (m k u : ℕ) → 1023 ≤ m / 4503599627370496 → m / 4503599627370496 < 1075 → k ≡ 1075 - m / 4503599627370496 → u ≡ 2 ^ k → Floors true m ((m + (u - 1)) / 2 ^ k * 2 ^ k % 18446744073709551616)
+raises-mid m k u lo hi z w =
+    rw w
+    (subst (Floors true m) (sym (wrapped _ (small))) (record { small = small; same = subst (λ (r : ℕ). ofBits binary64 (signed binary64 true r) ≡ floored (ofBits binary64 (signed binary64 true m))) (sym is) (put true m x k e p h (d / 2 ^ k) (floored-at _ true (4503599627370496 + m % 4503599627370496) (2 ^ k) (pow-pos k) (value true m x k e p h)) most (lead-of true m x k e p h d (omega arith))) }))
   where
-    strict : (part m e u * down e ≡ m * up e) ⊎ (part m e u * down e < m * up e) → part m e u * down e < m * up e
-    strict (inl z) = absurd (subst T (subst (λ (k : ℤ). eq (ofInt binary64 k) (fin true m e) ≡ false) (cut-true m e u) b) (equal m e u (part m e u) refl z))
-    strict (inr l) = l
+    x : ℕ
+    x = m / 4503599627370496 - 1
 
--- t and k as the code has them
-module _ (x t : Float) (k : ℤ) (i : Inside x) (p : k ≡ toSigned 63 x) (q : t ≡ ofInt binary64 k) where
-  t-is : t ≡ ofInt binary64 (toSigned 63 (fin (i .sign) (i .digits) (i .place)))
-  t-is = q ∙ ap (ofInt binary64) (p ∙ ap (toSigned 63) (i .is))
+    d : ℕ
+    d = 4503599627370496 + m % 4503599627370496 + (2 ^ k - 1)
 
-  pub floor-below : lt t x ≡ true → t ≡ floored x
-  floor-below h =
-      t-is ∙ below-at (i .sign) (i .digits) (i .place) (i .under) (ap (lt _) (sym (i .is)) ∙ ap (λ (y : Float). lt y x) (sym t-is) ∙ h) ∙ ap floored (sym (i .is))
+    e : m / 4503599627370496 ≡ suc x
+    e = mid-field m lo
 
-  pub floor-level : T (fits binary64 x) → eq t x ≡ true → x ≡ floored x
-  floor-level f h =
-      i .is
-      ∙ whole-stays (i .sign) (i .digits) (i .place) (part (i .digits) (i .place) (i .under)) (subst (λ (y : Float). T (fits binary64 y)) (i .is) f)
-      (level-at (i .sign) (i .digits) (i .place) (i .under) (ap (eq _) (sym (i .is)) ∙ ap (λ (y : Float). eq y x) (sym t-is) ∙ h))
-      ∙ ap floored (sym (i .is))
+    p : x + k ≡ 1074
+    p = mid-places m k lo hi z
 
-  pub floor-over : lt t x ≡ false → eq t x ≡ false → Over x
-  floor-over a b =
-      subst Over (sym (i .is))
-      (over-at (i .sign) (i .digits) (i .place) (i .under) (ap (lt _) (sym (i .is)) ∙ ap (λ (y : Float). lt y x) (sym t-is) ∙ a) (ap (eq _) (sym (i .is)) ∙ ap (λ (y : Float). eq y x) (sym t-is) ∙ b))
+    h : k ≤ 52
+    h = omega arith
+
+    most : d / 2 ^ k * 2 ^ k ≤ 9007199254740992
+    most = most-of true m x k e p h d (omega (arith, pow-pos k))
+
+    is : (m + (2 ^ k - 1)) / 2 ^ k * 2 ^ k ≡ x * 4503599627370496 + d / 2 ^ k * 2 ^ k
+    is = ap (λ (y : ℕ). y / 2 ^ k * 2 ^ k) (order m (4503599627370496 + m % 4503599627370496) (x * 4503599627370496) (2 ^ k - 1) (m-is true m x k e p h)) ∙ clear true m x k e p h d
+      where
+        order : (m d y u : ℕ) → m ≡ d + y → m + u ≡ d + u + y
+        order m d y u h = omega arith
+
+    small : (m + (2 ^ k - 1)) / 2 ^ k * 2 ^ k ≤ 9218868437227405312
+    small = le-trans (le-of-eq is) (omega (arith, most))
+
+-- ---- a size below 1
+tiny : (s : Bool) (m : ℕ) → m / 4503599627370496 < 1023 → (a : ℕ) × HasValue (ofBits binary64 (signed binary64 s m)) s a (2 ^ 1074) × (a < 2 ^ 1074) × (0 < m → 0 < a)
+tiny s m h = go (m / 4503599627370496) refl h
+  where
+    places : (x : ℕ) → suc x < 1023 → 53 + x ≤ 1074
+    places x l = omega arith
+
+    go : (f : ℕ) → m / 4503599627370496 ≡ f → f < 1023 → (a : ℕ) × HasValue (ofBits binary64 (signed binary64 s m)) s a (2 ^ 1074) × (a < 2 ^ 1074) × (0 < m → 0 < a)
+    go zero e l = (
+      m % 4503599627370496 * 2 ^ 0,
+      reads-low binary64 s m (omega arith) e,
+      lt-of-lt-of-le (subst (λ (y : ℕ). y < 4503599627370496) (sym (mul-one (m % 4503599627370496))) (omega arith)) (lit≤ tt),
+      λ (P : 0 < m). subst (λ (y : ℕ). 0 < y) (sym (mul-one (m % 4503599627370496))) (omega arith),
+    )
+    go (suc x) e l = (
+      (4503599627370496 + m % 4503599627370496) * 2 ^ x,
+      reads-mid binary64 s m x (omega arith) e (omega arith),
+      lt-of-lt-of-le (shl-lt 53 x (omega arith)) (pow-mono (places x l)),
+      λ (P : 0 < m). mul-pos (omega arith) (pow-pos x),
+    )
+
+none : (a c : ℕ) → a < c → a / c ≡ 0
+none a c h = few (div-lt-iff-lt-mul (omega arith) .1 (lt-of-lt-of-le h (le-of-eq (sym (one-mul c)))))
+  where
+    few : {q : ℕ} → q < 1 → q ≡ 0
+    few h = omega arith
+
+zero-is : round binary64 false 0 1 ≡ ofBits binary64 0
+unfolding round ofBits
+zero-is = refl
+
+minus-one-is : round binary64 true 1 1 ≡ ofBits binary64 (9223372036854775808 + 4607182418800017408)
+unfolding round ofBits
+minus-one-is = refl
+
+minus-zero-is : ofBits binary64 9223372036854775808 ≡ floored (ofBits binary64 9223372036854775808)
+unfolding round ofBits floored
+minus-zero-is = refl
+
+pub floors-tiny : (m : ℕ) → m / 4503599627370496 < 1023 → Floors false m 0
+floors-tiny m h =
+    let t = tiny false m h in
+    record { small = omega arith; same = sym (floored-at _ false (t .0) (2 ^ 1074) (pow-pos 1074) (t .1) ∙ ap (λ (n : ℕ). round binary64 false n 1) (none (t .0) (2 ^ 1074) (t .2)) ∙ zero-is) }
+
+pub raises-zero : Floors true 0 0
+raises-zero = record { small = omega arith; same = minus-zero-is }
+
+pub raises-tiny : (m : ℕ) → 0 < m → m / 4503599627370496 < 1023 → Floors true m 4607182418800017408
+raises-tiny m P h =
+    let t = tiny true m h in
+    let w : t .0 / 2 ^ 1074 ≡ 0 = none (t .0) (2 ^ 1074) (t .2) in
+    let c : (t .0 + (2 ^ 1074 - 1)) / 2 ^ 1074 ≡ 1 = ceil-over (t .0) (2 ^ 1074) (pow-pos 1074) (subst (λ (n : ℕ). n < t .0) (sym (ap (λ (q : ℕ). q * 2 ^ 1074) w ∙ zero-mul (2 ^ 1074))) (t .3 P)) ∙ ap suc w in
+    record { small = omega arith; same = sym (floored-at _ true (t .0) (2 ^ 1074) (pow-pos 1074) (t .1) ∙ ap (λ (n : ℕ). round binary64 true n 1) c ∙ minus-one-is) }
+
+-- ---- from 2 ^ 52 on, and the infinity
+inf-stays : (s : Bool) → inf s ≡ floored (inf s)
+unfolding floored
+inf-stays s = refl
+
+whole-value : (y : Float) (s : Bool) (c : ℕ) → T (fits binary64 y) → HasValue y s c 1 → y ≡ floored y
+whole-value (fin t m e) s c f h = whole-stays t m e c f (sym (sym (mul-one (m * up e)) ∙ h .1))
+
+pub floors-far : (s : Bool) (m : ℕ) → 1075 ≤ m / 4503599627370496 → m ≤ 9218868437227405312 → Floors s m m
+floors-far s m lo hi = record { small = hi; same = go (eq-or-lt-of-le hi) }
+  where
+    go : (m ≡ 9218868437227405312) ⊎ (m < 9218868437227405312) → ofBits binary64 (signed binary64 s m) ≡ floored (ofBits binary64 (signed binary64 s m))
+    go (inl e) = subst (λ (r : ℕ). ofBits binary64 (signed binary64 s r) ≡ floored (ofBits binary64 (signed binary64 s r))) (sym e) (reads-inf binary64 s ∙ inf-stays s ∙ sym (ap floored (reads-inf binary64 s)))
+    go (inr l) =
+        let x = m / 4503599627370496 - 1 in
+        let d = 4503599627370496 + m % 4503599627370496 in
+        whole-value (ofBits binary64 (signed binary64 s m)) s (d * 2 ^ (x - 1074)) (ofBits-fits binary64 (signed binary64 s m))
+        (at-unit (ofBits binary64 (signed binary64 s m)) s (d * 2 ^ x) (2 ^ 1074) (d * 2 ^ (x - 1074)) 1 (pow-pos 1074)
+        (mul-assoc d (2 ^ (x - 1074)) (2 ^ 1074) ∙ ap (λ (y : ℕ). d * y) (sym (pow-add 2 (x - 1074) 1074) ∙ ap (λ (y : ℕ). 2 ^ y) (back m lo)) ∙ sym (mul-one (d * 2 ^ x)))
+        (reads-mid binary64 s m x (omega arith) (mid-field m (omega arith)) (omega arith)))
+      where
+        back : (m : ℕ) → 1075 ≤ m / 4503599627370496 → m / 4503599627370496 - 1 - 1074 + 1074 ≡ m / 4503599627370496 - 1
+        back m h = omega arith
+
+-- ---- the floor is exact at every size: its value is the whole number itself
+abbrev pub floorSize : Bool → ℕ → ℤ → ℕ
+floorSize false m e = m * up e / down e
+floorSize true m e = (m * up e + (down e - 1)) / down e
+
+small-exact : (s : Bool) (m : ℕ) (e : ℤ) → m * up e < 4503599627370496 * down e → HasValue (floored (fin s m e)) s (floorSize s m e) 1
+unfolding floored
+small-exact false m e h = round-whole binary64 false (m * up e / down e) (omega (arith, div-lt-iff-lt-mul (down-pos e) .1 h))
+small-exact true m e h = round-whole binary64 true ((m * up e + (down e - 1)) / down e) (le-of-lt (div-lt-iff-lt-mul (down-pos e) .1 (omega (arith, down-pos e))))
+
+size-of-whole : (s : Bool) (m : ℕ) (e : ℤ) (c : ℕ) → c * down e ≡ m * up e → floorSize s m e ≡ c
+size-of-whole false m e c h = ap (λ (x : ℕ). x / down e) (sym h) ∙ mul-div-cancel c (down-pos e)
+size-of-whole true m e c h = ceil-at (m * up e) (down e) c (down-pos e) h
+
+large-exact : (s : Bool) (m : ℕ) (e : ℤ) → T (fits binary64 (fin s m e)) → 4503599627370496 * down e ≤ m * up e → HasValue (floored (fin s m e)) s (floorSize s m e) 1
+large-exact s m e t h =
+    let c = no-places s m e t h in
+    subst (λ (x : Float). HasValue x s (floorSize s m e) 1) (stays s m e t h) (refl, mul-one (m * up e) ∙ sym (ap (λ (n : ℕ). n * down e) (size-of-whole s m e (c .0) (c .1)) ∙ c .1))
+
+pub floored-exact : (s : Bool) (m : ℕ) (e : ℤ) → T (fits binary64 (fin s m e)) → HasValue (floored (fin s m e)) s (floorSize s m e) 1
+floored-exact s m e t = go (ltb (m * up e) (4503599627370496 * down e)) refl
+  where
+    go : (b : Bool) → ltb (m * up e) (4503599627370496 * down e) ≡ b → HasValue (floored (fin s m e)) s (floorSize s m e) 1
+    go true q = small-exact s m e (ltb-true (m * up e) (4503599627370496 * down e) q)
+    go false q = large-exact s m e t (ltb-false (m * up e) (4503599627370496 * down e) q)

@@ -8,5 +8,5 @@ mod Closest
 mod Narrowing
 mod Cases
 mod Powers
-mod Floors
+pub mod Floors
 mod Whole

@@ -2,14 +2,14 @@
 -- where j is above 0. Its pattern, without the sign, is j * hid + q: the leading digit adds one to the exponent's field. At q = 2 ^ prec the same sum carries, and is right too. Assumes nothing.
 use mathlib.Core.Path.{_≡_, refl, sym, ap, _∙_, subst}
 use mathlib.Core.Logic.{_⊎_, inl, inr}
-use Prim.Native.Nat.{ℕ, zero, suc, _+_, _-_, _*_, _/_, _%_, _^_, _≤_, _<_}
-use native.Mathlib.Nat.{le-antisymm, le-trans, le-of-eq, lt-of-lt-of-le, lt-of-not-le, not-le-of-lt, mul-one, one-mul, mul-assoc, mul-right-comm, mul-div-cancel, mul-le-mul-right, eq-of-mul-eq-mul-right, eq-or-lt-of-le, add-assoc, zero-add, suc-mul, pow-succ', le-add-right, add-mod-left, mod-eq-of-lt, mul-add-mod-self-left}
+use Prim.Native.Nat.{ℕ, suc, _+_, _-_, _*_, _/_, _%_, _^_, _≤_, _<_}
+use native.Mathlib.Nat.{le-trans, le-of-eq, lt-of-lt-of-le, lt-of-not-le, not-le-of-lt, mul-one, mul-assoc, mul-right-comm, mul-div-cancel, mul-le-mul-right, eq-of-mul-eq-mul-right, eq-or-lt-of-le, add-assoc, zero-add, suc-mul, pow-succ', le-add-right, add-mod-left, mod-eq-of-lt, mul-add-mod-self-left}
 use native.Mathlib.Omega.{arith}
-use mathlib.Core.Bool.{Bool, true, false, not, cond}
+use mathlib.Core.Bool.{Bool, true, false, cond}
 use lib.Dec.{T, eqb, leb, eqb→eq, not-T, le→leb}
 use lib.Arith.{lt→nleb}
 use lib.Pow.{pow-add, pow-pos, pow-mono, pow-lt, shl-lt}
-use lib.Ieee.{Float, nan, inf, fin, Format, binary32, binary64, prec, emax, low, up, down, size, odd, hid, ones, top, ofFields, ofBits, toBits, fits}
+use lib.Ieee.{Float, nan, inf, fin, Format, binary32, binary64, prec, low, up, down, size, odd, hid, ones, top, ofFields, ofBits, toBits, fits}
 use lib.Ieee.Digits.{size-lt, size-le}
 use lib.Ieee.Fits.{down-pos}
 use lib.Ieee.Bits.{cond-no, is-true, is-false, ofBits-toBits}

@@ -1,14 +1,14 @@
 -- The float whose exponent's field is b, with no digits below the leading one, is 2 ^ (b - 1023). Assumes nothing.
 use mathlib.Core.Path.{_≡_, refl}
 use mathlib.Core.Bool.{Bool, true, false, not}
-use Prim.Native.Nat.{ℕ, zero, suc, _+_, _-_, _*_, _/_, _%_, _^_, _<_, _≤_}
+use Prim.Native.Nat.{ℕ, zero, suc, _+_, _-_, _*_, _/_, _%_, _<_, _≤_}
 use native.Mathlib.Omega.{arith}
 use lib.IntN.{ℤ, pos, negsuc, _+ℤ_}
 use lib.Signed.{ltZ}
 use lib.Count.{trailingZeros}
 use lib.Dec.{T, leb}
-use borrow.Author.Tests.{leb-true, leb-false, ltb-false, lt-leb, le-leb, le-ltb, eq-eqb, ne-eqb}
-use lib.Ieee.{Float, fin, binary64, ofBits, ofFields, odd, minus, nanBits}
+use borrow.Author.Tests.{leb-true, leb-false, ltb-false, lt-leb, le-leb, le-ltb, ne-eqb}
+use lib.Ieee.{fin, binary64, ofBits, ofFields, odd, minus, nanBits}
 
 shift : (x : ℕ) → minus (x + 52) 1074 ≡ minus (suc x) 1023
 shift x = go (leb 1022 x) refl

@@ -1,14 +1,14 @@
 -- A fraction rounded, as a bit pattern: `round` keeps q units of 2 ^ j smallest values, and its pattern is j * hid + q, also where q carries. Assumes nothing.
-use mathlib.Core.Path.{_≡_, refl, sym, ap, _∙_, subst}
+use mathlib.Core.Path.{_≡_, sym, ap, _∙_, subst}
 use mathlib.Core.Logic.{_⊎_, inl, inr}
-use Prim.Native.Nat.{ℕ, zero, suc, _+_, _-_, _*_, _/_, _%_, _^_, _≤_, _<_, compare}
-use native.Mathlib.Nat.{le-trans, le-of-eq, lt-of-lt-of-le, mul-comm, mul-assoc, mul-right-comm, mul-pos, div-lt-iff-lt-mul, le-div-iff-mul-le}
+use Prim.Native.Nat.{ℕ, suc, _+_, _-_, _*_, _/_, _%_, _^_, _≤_, _<_, compare}
+use native.Mathlib.Nat.{le-trans, le-of-eq, lt-of-lt-of-le, mul-comm, mul-assoc, mul-pos, div-lt-iff-lt-mul, le-div-iff-mul-le}
 use native.Mathlib.Omega.{arith}
-use mathlib.Core.Bool.{Bool, true, false, not, cond}
-use lib.Dec.{T, ltb}
+use mathlib.Core.Bool.{Bool}
+use lib.Dec.{ltb}
 use lib.Arith.{le→nltb}
 use lib.Pow.{pow-add, pow-pos}
-use lib.Ieee.{Float, inf, Format, binary32, binary64, prec, emax, low, size, odd, units, round, hid, ofBits}
+use lib.Ieee.{Float, inf, Format, prec, low, size, odd, units, round, hid, ofBits}
 use lib.Ieee.Digits.{size-le}
 use lib.Ieee.Fits.{core, round-is, round-fits, nearest-le}
 use lib.Ieee.Bits.{cond-no}

@@ -1,10 +1,10 @@
 -- A value that is no NaN, as its pattern's sign and the rest, and back. Assumes nothing.
 use mathlib.Core.Path.{_≡_, refl, sym, ap, _∙_, subst}
-use Prim.Native.Nat.{ℕ, zero, suc, _+_, _-_, _*_, _/_, _%_, _^_, _≤_, _<_}
+use Prim.Native.Nat.{ℕ, _-_, _*_, _%_, _≤_, _<_}
 use native.Mathlib.Nat.{lt-of-le-of-lt, mod-eq-of-lt, mod-eq-sub-mod, zero-add, add-mod-left, add-sub-of-le}
 use native.Mathlib.Omega.{arith}
-use mathlib.Core.Bool.{Bool, true, false, not, cond, true≢false}
-use lib.Dec.{T, ltb, leb}
+use mathlib.Core.Bool.{Bool, true, false, not, true≢false}
+use lib.Dec.{T, ltb}
 use borrow.Author.Tests.{ltb-false, le-ltb, lt-ltb}
 use lib.Ieee.{Float, nan, inf, fin, Format, binary32, binary64, hid, ones, top, ofBits, toBits, fits, isNan, nanBits, ne, div}
 use lib.Ieee.Compare.{nan-differs, differs-from-itself}

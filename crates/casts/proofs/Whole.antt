@@ -1,14 +1,14 @@
 -- The whole part where it does not fit the type: the ends of the range, and 0 for a NaN. Assumes nothing.
 use mathlib.Core.Path.{_≡_, refl, sym, ap, _∙_, subst}
-use mathlib.Core.Bool.{Bool, true, false, cond, true≢false}
-use Prim.Native.Nat.{ℕ, _+_, _-_, _*_, _/_, _^_, _<_, _≤_, min}
-use native.Mathlib.Nat.{min-eq-right, lt-of-not-le, le-of-lt, le-div-iff-mul-le, mul-one, one-mul}
+use mathlib.Core.Bool.{true, false, true≢false}
+use Prim.Native.Nat.{ℕ, _+_, _-_, _*_, _/_, _^_, _<_, _≤_}
+use native.Mathlib.Nat.{min-eq-right, lt-of-not-le, le-of-lt, le-div-iff-mul-le}
 use native.Mathlib.Omega.{arith}
-use lib.IntN.{ℤ, pos, negsuc, negℤ}
-use lib.Dec.{T, ltb}
+use lib.IntN.{pos, negsuc, negℤ}
+use lib.Dec.{T}
 use borrow.Author.Tests.{ltb-false}
 use lib.Ieee.{Float, nan, inf, fin, up, down, lt, le, ne, toUnsigned, toSigned}
-use lib.Ieee.Fits.{up-pos, down-pos}
+use lib.Ieee.Fits.{down-pos}
 use lib.Ieee.Compare.{differs-from-itself, nan-differs}
 use Rattle.casts.specs.Order.{says-le}
 

@@ -1,14 +1,13 @@
 -- An f32's pattern, turned into the f64's of the same value. Assumes nothing.
 use mathlib.Core.Path.{_≡_, refl, sym, ap, _∙_, subst}
 use mathlib.Core.Logic.{_⊎_, inl, inr}
-use Prim.Native.Nat.{ℕ, zero, suc, _+_, _-_, _*_, _/_, _%_, _^_, _≤_, _<_}
-use native.Mathlib.Nat.{le-trans, le-of-eq, le-of-lt, lt-of-lt-of-le, mul-one, mul-assoc, mul-le-mul-right, mod-eq-of-lt}
+use Prim.Native.Nat.{ℕ, suc, _+_, _-_, _*_, _/_, _%_, _^_, _≤_, _<_}
+use native.Mathlib.Nat.{le-trans, le-of-eq, le-of-lt, mul-assoc, mul-le-mul-right, mod-eq-of-lt}
 use native.Mathlib.Omega.{arith}
-use mathlib.Core.Bool.{Bool, true, false, cond}
-use lib.Dec.{T}
+use mathlib.Core.Bool.{Bool}
 use lib.Pow.{pow-add, pow-pos, shl-lt}
 use lib.Count.{leadingZeros, leading-top}
-use lib.Ieee.{Float, binary32, binary64, ofBits, fits}
+use lib.Ieee.{binary32, binary64, ofBits}
 use lib.Ieee.Fits.{fits-widens}
 use lib.Ieee.Bits.{ofBits-fits}
 use lib.Ieee.Exact.{HasValue}

@@ -1,7 +1,6 @@
 -- Marked case i: "Line of greatest delay 2 after 1, 2, 3: tap −1 and 0 give 3; 0.5 gives 2.5; 9 gives 1." Assumes nothing.
 use mathlib.Core.Path.{_≡_, refl}
-use mathlib.Core.List.{List, [], _∷_}
-use Prim.Native.Nat.{ℕ}
+use mathlib.Core.List.{List}
 use lib.ListN.{replicate}
 use lib.Ieee.{Float, neg, ofBits, binary64, toUnsigned, lt, add, sub, mul, ofInt}
 use Rattle.casts.specs.Arithmetic.{whole, nought, half, one, two}

@@ -1,13 +1,13 @@
 -- A line in a part of a store: what a push into the part does to the whole, and what a read of the part reads of the whole.
 -- Assumes nothing.
-use mathlib.Core.Path.{_≡_, refl, sym, ap, subst, _∙_}
+use mathlib.Core.Path.{_≡_, _∙_}
 use Prim.Native.Nat.{ℕ, _+_, _-_, _%_, _<_, _≤_}
 use native.Mathlib.Nat.{mod-lt}
 use native.Mathlib.Omega.{arith}
 use mathlib.Core.List.{List}
-use lib.ListN.{length, set, getD, take, drop}
+use lib.ListN.{length}
 use lib.Seq.{getD-take, getD-drop}
-use lib.Ieee.{Float, nan}
+use lib.Ieee.{Float}
 use borrow.Rule.Slice.PartMut.{midOf, putMid, mid-len, set-mid-at}
 use Rattle.delay.specs.Delay.{pushed, tapped, back, storePush, storeTap, tapOf}
 

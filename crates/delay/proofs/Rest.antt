@@ -1,6 +1,6 @@
 -- A list that holds only zeros. Assumes nothing.
 use mathlib.Core.Path.{_≡_, refl, sym, ap, _∙_}
-use mathlib.Core.Bool.{Bool, true, false, cond, true≢false}
+use mathlib.Core.Bool.{Bool, true, false, _&&_, cond, true≢false}
 use mathlib.Core.Logic.{_⊎_, inl, inr, ⊎-elim}
 use mathlib.Core.List.{List, [], _∷_, _++_}
 use Prim.Native.Nat.{ℕ, zero, suc, _+_, _-_, _%_, _^_, _<_, _≤_}
@@ -52,12 +52,12 @@ unfolding allZero
 each-zero [] f = refl
 each-zero (x ∷ xs) f = rw (f 0 (omega arith)) (each-zero xs (λ i h. f (suc i) (omega arith)))
 
-pub zero-append : (a b : List Float) → allZero (a ++ b) ≡ cond (allZero a) (allZero b) false
+pub zero-append : (a b : List Float) → allZero (a ++ b) ≡ (allZero a && allZero b)
 unfolding allZero
 zero-append [] b = refl
 zero-append (x ∷ xs) b = go (eq x nought) (zero-append xs b)
   where
-    go : (t : Bool) → allZero (xs ++ b) ≡ cond (allZero xs) (allZero b) false → cond t (allZero (xs ++ b)) false ≡ cond (cond t (allZero xs) false) (allZero b) false
+    go : (t : Bool) → allZero (xs ++ b) ≡ (allZero xs && allZero b) → cond t (allZero (xs ++ b)) false ≡ (cond t (allZero xs) false && allZero b)
     go true e = e
     go false e = refl
 

@@ -1,14 +1,13 @@
 -- The whole part of a delay that is held within 0 and the greatest one. Assumes nothing.
-use mathlib.Core.Path.{_≡_, refl, sym, ap, _∙_, subst}
-use mathlib.Core.Bool.{Bool, true, false, not, cond}
-use Prim.Native.Nat.{ℕ, _+_, _^_, _<_, _≤_}
+use mathlib.Core.Path.{_≡_, refl, sym, subst}
+use mathlib.Core.Bool.{Bool, true, false, cond}
+use Prim.Native.Nat.{_≤_}
 use native.Mathlib.Nat.{le-refl, le-trans}
-use native.Mathlib.Omega.{arith}
-use lib.Dec.{T, lit≤}
+use lib.Dec.{T}
 use lib.IntN.{pos}
-use lib.Ieee.{Float, nan, inf, fin, binary64, lt, le, ofBits, toUnsigned, isNan}
+use lib.Ieee.{Float, fin, binary64, lt, le, ofBits, toUnsigned}
 use Rattle.casts.specs.Arithmetic.{nought}
-use Rattle.casts.specs.Order.{lt→le, le-trans-any, le-lt-trans, not-lt→le, le-clean-right}
+use Rattle.casts.specs.Order.{lt→le, le-lt-trans}
 use Rattle.casts.specs.Step.{toUnsigned-mono}
 use Rattle.delay.specs.Delay.{largerOf, lesserOf, Reach}
 

@@ -2,16 +2,16 @@
 -- LN: every normal x above 0 is m·2^k with 1 ≤ m < 2. Assumes nothing.
 use mathlib.Core.Path.{_≡_, refl, sym, ap, _∙_, subst}
 use Prim.Native.Nat.{ℕ, zero, suc, _+_, _-_, _*_, _/_, _%_, _^_, _≤_, _<_, min}
-use native.Mathlib.Nat.{le-trans, le-of-eq, mul-one, mul-assoc, mul-right-comm, mul-le-mul-right, le-of-mul-le-mul-right, mul-div-cancel, div-lt-iff-lt-mul, mul-pos, zero-add, pow-succ'}
+use native.Mathlib.Nat.{mul-one, mul-assoc, mul-right-comm, le-of-mul-le-mul-right, mul-div-cancel, div-lt-iff-lt-mul, zero-add, pow-succ'}
 use native.Mathlib.Omega.{arith}
-use mathlib.Core.Bool.{Bool, true, false, not, _&&_, Bool·beq, cond, true≢false}
-use lib.IntN.{ℤ, pos, negsuc, negℤ}
+use mathlib.Core.Bool.{Bool, true, false, _&&_, cond, true≢false}
+use lib.IntN.{pos, negℤ}
 use lib.Dec.{T, ltb}
 use lib.Pow.{pow-pos}
 use borrow.Author.Tests.{le-ltb}
-use lib.Ieee.{Float, nan, inf, fin, Format, binary64, prec, emax, low, up, down, odd, units, round, neg, sum, add, div, le, ofBits, ofInt, toBits, toSigned, fits}
+use lib.Ieee.{Float, nan, inf, fin, binary64, up, down, odd, units, round, neg, sum, add, div, le, ofBits, ofInt, toBits, toSigned, fits}
 use lib.Ieee.Fits.{down-pos, round-is}
-use lib.Ieee.Exact.{HasValue, odd-sign}
+use lib.Ieee.Exact.{HasValue}
 use lib.Ieee.Back.{round-whole}
 use lib.Ieee.Order.{round-mono}
 use Rattle.casts.specs.Arithmetic.{_⊕_, _⊘_, whole, half}

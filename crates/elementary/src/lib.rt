@@ -1,19 +1,14 @@
 // 01's elementary functions, each equal to its definition in specs/Elementary.antt at every float.
-// Uses the casts alone.
+// Uses casts and std.
 ghost use mathlib.Core.Path.{_≡_};
-ghost use Rattle.elementary.specs.Elementary.{turn, SIN, COS, EXP, LN, POW, TANH, SINH, SIN32, POW32};
+ghost use Rattle.elementary.specs.Elementary.{turn, SIN, COS, EXP, LN, POW, TANH, SINH, SQRT7200, SIN32, POW32};
 
 pub const TAU: f64 = 6.28318530717958647692528676655900577;
 
-pub const PI: f64 = 3.14159265358979323846264338327950288;
-
 pub const LN2: f64 = 0.693147180559945309417232121458176568;
 
-// The f64 nearest to the root of 7200.
-pub const SQRT7200: f64 = 84.85281374238570292810132345258188471;
-
 // v less the nearest whole number of turns.
-fn turned(v: f64) -> f64
+pub fn turned(v: f64) -> f64
     ensures { λ r. ⌜ r ≡ turn v ⌝ }
 {
     v - casts::floor(v / TAU + 0.5) * TAU
@@ -108,6 +103,13 @@ pub fn sinh(v: f64) -> f64
     ensures { λ r. ⌜ r ≡ SINH v ⌝ }
 {
     (exp(v) - exp(-v)) / 2.0
+}
+
+// The f64 nearest to the root of 7200.
+pub fn sqrt_7200() -> f64
+    ensures { λ r. ⌜ r ≡ SQRT7200 ⌝ }
+{
+    84.85281374238570292810132345258188471
 }
 
 pub fn sin_f32(x: f32) -> f32

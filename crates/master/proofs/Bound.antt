@@ -1,11 +1,11 @@
--- The gain bound, on the machine: after any list of frames longer than the look-ahead, the gain count is at most ahead + 1 times the step of the delivered frame's need.
--- Each of the summed steps comes of a released gain that is at most the least need of a window in which that frame lies. Assumes nothing.
+-- A need and a released gain are from 0 to 1. A step of the machine is at most that of every need in its window, and so is each of the last j of them, for a frame that lies in all
+-- of their windows. Assumes nothing.
 use mathlib.Core.Path.{_≡_, refl, sym, ap, _∙_, subst}
 use mathlib.Core.Logic.{_⊎_, inl, inr}
 use mathlib.Core.List.{List, [], _∷_, map}
 use mathlib.Core.Bool.{Bool, true, false, not, cond}
 use Prim.Native.Nat.{ℕ, zero, suc, _+_, _*_, _≤_, _<_, zero-le}
-use native.Mathlib.Nat.{le-refl, le-of-suc-le-suc, not-suc-le-zero, zero-lt-suc, mul-pos, mul-one, zero-mul, suc-mul}
+use native.Mathlib.Nat.{le-of-suc-le-suc, not-suc-le-zero, zero-lt-suc, mul-pos, mul-one, zero-mul, suc-mul}
 use native.Mathlib.Omega.{arith}
 use lib.Dec.{T, ltb, eqb, eqb→eq, ltb→lt}
 use lib.IntN.{pos}
@@ -24,7 +24,7 @@ use Rattle.rate.specs.Ceiling.{unit, plain, Usable}
 use Rattle.master.proofs.Window.{All}
 use Rattle.rate.specs.declared.CeilingRate.{CeilingRate}
 use Rattle.stream.specs.declared.Frame.{Frame}
-use Rattle.master.specs.Ceiling.{silence, peakOf, needFor, needOf, least, leastOf, heldOf, lastOf, total, CeilingMachine, freshMachine, releasedOf, taken, countOf, lateOf}
+use Rattle.master.specs.Ceiling.{silence, peakOf, needFor, needOf, least, leastOf, heldOf, lastOf, total, CeilingMachine, freshMachine, releasedOf, taken}
 
 -- after each of a list of frames, newest first
 unfoldable pub after : CeilingRate → List Frame → CeilingMachine
@@ -240,7 +240,7 @@ module _ (r : CeilingRate) (sound : Usable r) where
       let under : T (le x (getD needs a d)) = le-trans-any x (heldOf r needs) (getD needs a d) (under-held f h) (held-at needs a d (i .0) w (subst (λ (n : ℕ). a < n) (sym (length-needs (f ∷ h))) k)) in
       step-mono x (needOf r (getD (f ∷ h) a silence)) (i .1 .0) (subst (λ (y : Float). T (le x y)) at under) (need-of (getD (f ∷ h) a silence) .1)
 
-  steps-bound : (j a : ℕ) (h : List Frame) → j ≤ suc a → a < r .window → a < length h
+  pub steps-bound : (j a : ℕ) (h : List Frame) → j ≤ suc a → a < r .window → a < length h
       → total (lastOf j unit (after r h .steps)) ≤ j * stepOf (needOf r (getD h a silence))
   unfolding total lastOf after taken
   steps-bound zero a h j w k = zero-le
@@ -258,15 +258,3 @@ module _ (r : CeilingRate) (sound : Usable r) where
         where
           total-le : (s t b c : ℕ) → s ≤ b → t ≤ c → s + t ≤ c + b
           total-le s t b c h k = omega arith
-
-  pub frames-are : (h : List Frame) → after r h .frames ≡ h
-  unfolding after taken
-  frames-are [] = refl
-  frames-are (f ∷ h) = ap (λ l. f ∷ l) (frames-are h)
-
-  -- THE GAIN BOUND: at every frame after the first `ahead`, for every list of frames from a fresh ceiling
-  pub gain-bound : (h : List Frame) → r .ahead < length h → countOf r (after r h) ≤ suc (r .ahead) * stepOf (needOf r (lateOf r (after r h)))
-  unfolding countOf lateOf
-  gain-bound h k =
-      subst (λ (l : List Frame). countOf r (after r h) ≤ suc (r .ahead) * stepOf (needOf r (getD l (r .ahead) silence))) (sym (frames-are h))
-      (steps-bound (suc (r .ahead)) (r .ahead) h (le-refl (suc (r .ahead))) (sound .window-long) k)

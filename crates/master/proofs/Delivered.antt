@@ -3,7 +3,7 @@ use mathlib.Core.Path.{_≡_, refl, sym, ap, _∙_, subst}
 use mathlib.Core.Logic.{inl, inr}
 use mathlib.Core.List.{List, [], _∷_}
 use Prim.Native.Nat.{ℕ, zero, suc, _+_, _-_, _*_, _≤_, _<_}
-use native.Mathlib.Nat.{le-of-suc-le-suc, not-suc-le-zero, zero-add}
+use native.Mathlib.Nat.{le-refl, le-of-suc-le-suc, not-suc-le-zero, zero-add}
 use native.Mathlib.Omega.{arith}
 use lib.ListN.{length, getD, take}
 use lib.Seq.{length-take-le}
@@ -13,11 +13,24 @@ use Rattle.rate.specs.declared.CeilingRate.{CeilingRate}
 use Rattle.rate.specs.Ceiling.{Usable}
 use Rattle.stream.specs.declared.Frame.{Frame}
 use Rattle.master.specs.declared.Heard.{Heard}
-use Rattle.master.specs.Ceiling.{silence, needOf, freshMachine, countOf, lateOf, deliver, delivered, ceilingStep}
+use Rattle.master.specs.Ceiling.{silence, needOf, taken, freshMachine, countOf, lateOf, deliver, delivered, ceilingStep}
 use Rattle.master.specs.Kept.{CeilingIn, ceilingStepOn}
 use Rattle.master.proofs.Window.{le-or-lt}
-use Rattle.master.proofs.Bound.{after, gain-bound, frames-are}
+use Rattle.master.proofs.Bound.{after, steps-bound}
 use Rattle.master.proofs.Refines.{Fresh, same-heard}
+
+module _ (r : CeilingRate) (sound : Usable r) where
+  frames-are : (h : List Frame) → after r h .frames ≡ h
+  unfolding after taken
+  frames-are [] = refl
+  frames-are (f ∷ h) = ap (λ l. f ∷ l) (frames-are h)
+
+  -- after any list of frames, newest first
+  gain-bound : (h : List Frame) → r .ahead < length h → countOf r (after r h) ≤ suc (r .ahead) * stepOf (needOf r (lateOf r (after r h)))
+  unfolding countOf lateOf
+  gain-bound h k =
+      subst (λ (l : List Frame). countOf r (after r h) ≤ suc (r .ahead) * stepOf (needOf r (getD l (r .ahead) silence))) (sym (frames-are h))
+      (steps-bound r sound (suc (r .ahead)) (r .ahead) h (le-refl (suc (r .ahead))) (sound .window-long) k)
 
 -- the frames of l, in order, onto a past
 unfoldable pub onto : List Frame → List Frame → List Frame

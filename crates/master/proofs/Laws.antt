@@ -7,7 +7,7 @@ use native.Mathlib.Nat.{mod-eq-of-lt, add-mod-right}
 use native.Mathlib.Numerals.{add-one}
 use native.Mathlib.Omega.{arith}
 use borrow.Author.Tests.{le-leb, lt-leb, le-ltb, lt-ltb}
-use lib.Dec.{T, leb}
+use lib.Dec.{T, leb, ltb}
 use lib.Ieee.{Float, nan, inf, fin, neg, lt, ne, isNan}
 use lib.Ieee.Compare.{differs-from-itself, nan-differs}
 use Rattle.casts.specs.Arithmetic.{_⊗_, _⊘_, whole, nought, one}
@@ -142,8 +142,8 @@ module _ (W n number len : ℕ) where
     by-window : drops W (W + 1) n number len ≡ leb (number + W) n
     by-window = ap (λ (b : Bool). leb (number + W) n || b) (le-ltb (W + 1) len h) ∙ or-false (leb (number + W) n)
 
-    pub goes-early : n < W → false ≡ drops W (W + 1) n number len
-    goes-early l = sym (by-window ∙ lt-leb (number + W) n (omega arith))
+    pub goes-later : n < number → false ≡ drops W (W + 1) n number len
+    goes-later l = sym (by-window ∙ lt-leb (number + W) n (omega arith))
 
-    pub goes-late : W ≤ n → leb number (n - W) ≡ drops W (W + 1) n number len
-    goes-late l = elim (le-or-lt number (n - W)) [ inl a ↦ le-leb number (n - W) a ∙ sym (le-leb (number + W) n (omega arith)) ∙ sym by-window | inr a ↦ lt-leb number (n - W) a ∙ sym (lt-leb (number + W) n (omega arith)) ∙ sym by-window ]
+    pub goes-old : number ≤ n → ltb W (n - number + 1) ≡ drops W (W + 1) n number len
+    goes-old l = elim (le-or-lt (number + W) n) [ inl a ↦ lt-ltb W (n - number + 1) (omega arith) ∙ sym (by-window ∙ le-leb (number + W) n a) | inr a ↦ le-ltb W (n - number + 1) (omega arith) ∙ sym (by-window ∙ lt-leb (number + W) n a) ]

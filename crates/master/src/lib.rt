@@ -93,19 +93,20 @@ fn pops(samples: &[f64], places: usize, head: usize, len: usize, need: f64) -> u
     k
 }
 
-// Whether the head goes, with len needs queued: its frame left the window, or the ring is over-full.
+// Whether the head goes, with len needs queued: the frames from its own to this one are more than the window, or the ring is over-full.
 fn head_goes(window: usize, n: u64, number: u64, len: usize) -> bool
-    requires { ⌜ window < 65535 ⌝ }
+    requires { ⌜ (window < 65535) × (n < 4294967296) ⌝ }
     ensures { λ b. ⌜ b ≡ drops window (window + 1) n number len ⌝ }
 {
     if window + 1 < len {
         return true;
     }
-    let w = window as u64;
-    if n < w {
+    if n < number {
         return false;
     }
-    number <= n - w
+    let frames = n - number + 1;
+    let w = window as u64;
+    w < frames
 }
 
 struct Queue {
@@ -124,7 +125,7 @@ fn enqueue(
 ) -> Queue
     requires { ⌜ Usable rate ⌝ }
     requires { ⌜ Sized rate (now samples) (now counts) ⌝ }
-    requires { ⌜ (c .head < placesOf rate) × (c .len ≤ placesOf rate) ⌝ }
+    requires { ⌜ (c .head < placesOf rate) × (c .len ≤ placesOf rate) × (n < 4294967296) ⌝ }
     ensures head { λ q. ⌜ q .head ≡ headAfter rate n (ceilingOn c (now (samples .entry)) (now (counts .entry))) need ⌝ }
     ensures len { λ q. ⌜ q .len ≡ lenAfter rate n (ceilingOn c (now (samples .entry)) (now (counts .entry))) need ⌝ }
     ensures samples { λ _. ⌜ now (samples .exit) ≡ needsAfter rate (ceilingOn c (now (samples .entry)) (now (counts .entry))) need ⌝ }

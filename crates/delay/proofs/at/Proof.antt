@@ -1,9 +1,6 @@
-use lib.Ieee.{nan}
-use lib.ListN.{length, getD}
-use Prim.Native.Nat.{ℕ, _%_}
 use Rattle.delay.specs.Delay.{back}
 use borrow.Author.Needs.{needs, scaled-fits}
-use mathlib.Core.Path.{_≡_, ap}
+use mathlib.Core.Path.{_≡_}
 use native.Mathlib.Omega.{arith}
 use native.Mathlib.Nat.{mod-lt}
 use Rattle.delay.proofs.at.Statement.{statement}

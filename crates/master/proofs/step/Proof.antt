@@ -28,7 +28,7 @@ need-requires : tie.Need-need-requires
 need-requires c κs = search needs
 
 enqueue-requires : tie.Need-enqueue-requires
-enqueue-requires c κs = let s = c .before .before .before .before .before in (s .pre .0, (s .pre .1 .0, (ready s .at-head, ready s .full)))
+enqueue-requires c κs = let s = c .before .before .before .before .before in (s .pre .0, (s .pre .1 .0, (ready s .at-head, ready s .full, s .pre .1 .1 .1)))
 
 release-requires : tie.Need-release-requires
 release-requires c κs =
