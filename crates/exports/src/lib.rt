@@ -1,0 +1,66 @@
+// Thin C functions over the crates, for the Rust harness beside the part to call. Only the harness links them.
+
+#[no_mangle]
+pub extern "C" fn goqhari_test_widen(x: f32) -> f64 {
+    casts::widen(x)
+}
+
+#[no_mangle]
+pub extern "C" fn goqhari_test_narrow(x: f64) -> f32 {
+    casts::narrow(x)
+}
+
+#[no_mangle]
+pub extern "C" fn goqhari_test_floor(x: f64) -> f64 {
+    casts::floor(x)
+}
+
+#[no_mangle]
+pub extern "C" fn goqhari_test_whole(x: f64) -> u64 {
+    casts::whole_part(x)
+}
+
+#[no_mangle]
+pub extern "C" fn goqhari_test_sin(v: f64) -> f64 {
+    elementary::sin(v)
+}
+
+#[no_mangle]
+pub extern "C" fn goqhari_test_cos(v: f64) -> f64 {
+    elementary::cos(v)
+}
+
+#[no_mangle]
+pub extern "C" fn goqhari_test_exp(v: f64) -> f64 {
+    elementary::exp(v)
+}
+
+#[no_mangle]
+pub extern "C" fn goqhari_test_ln(x: f64) -> f64 {
+    elementary::ln(x)
+}
+
+#[no_mangle]
+pub extern "C" fn goqhari_test_pow(b: f64, p: f64) -> f64 {
+    elementary::pow(b, p)
+}
+
+#[no_mangle]
+pub extern "C" fn goqhari_test_tanh(v: f64) -> f64 {
+    elementary::tanh(v)
+}
+
+#[no_mangle]
+pub extern "C" fn goqhari_test_sinh(v: f64) -> f64 {
+    elementary::sinh(v)
+}
+
+#[no_mangle]
+pub extern "C" fn goqhari_test_sin_f32(x: f32) -> f32 {
+    elementary::sin_f32(x)
+}
+
+#[no_mangle]
+pub extern "C" fn goqhari_test_pow_f32(b: f32, p: f32) -> f32 {
+    elementary::pow_f32(b, p)
+}

@@ -1,0 +1,80 @@
+//! The ceiling: a fresh one over frames.
+
+use oracle::stream::master::Ceiling;
+
+use super::lists::{self, List};
+use crate::part;
+use crate::report::{Budget, Report};
+use crate::rng::Rng;
+use crate::setup::RATE;
+use crate::shrink::{Shrink, halves};
+use crate::signal::{self, Signal};
+
+#[derive(Clone, Debug)]
+struct Case {
+    left: Signal,
+    right: Signal,
+}
+
+/// Frames through a ceiling, one at a time, so that each one's gain count is seen.
+pub fn limited(ceiling: &mut Ceiling, frames: &[[f64; 2]]) -> (Vec<f32>, Vec<u64>) {
+    let mut out = Vec::new();
+    let mut gains = Vec::new();
+    for &frame in frames {
+        let mut one = [frame];
+        ceiling.limit_heard(&mut one, |_| ());
+        out.extend(one[0].map(|side| ceiling.clamp(side)));
+        gains.push(ceiling.sum());
+    }
+    (out, gains)
+}
+
+impl Case {
+    fn oracle(&self) -> (Vec<f32>, Vec<u64>) {
+        let frames: Vec<[f64; 2]> = self.left.iter().zip(self.right.iter()).map(|(&l, &r)| [l, r]).collect();
+        limited(&mut Ceiling::new(RATE), &frames)
+    }
+}
+
+impl List for Case {
+    fn drawn(rng: &mut Rng) -> Self {
+        let len = rng.scaled(1.0, 8000.0) as usize;
+        let left = signal::wild(rng, len);
+        let right =
+            if rng.flag() { Signal(left.iter().map(|x| x * 0.5).collect()) } else { signal::wild(rng, len) };
+        Case { left, right }
+    }
+
+    fn samples(&self) -> u64 {
+        self.left.len() as u64
+    }
+
+    fn difference(&self) -> Option<String> {
+        let ((our_frames, our_gains), (frames, gains)) = (part::ceiling(&self.left, &self.right), self.oracle());
+        lists::first("gain count", &our_gains, &gains).or_else(|| lists::first("side", &our_frames, &frames))
+    }
+}
+
+impl Shrink for Case {
+    fn smaller(&self) -> Vec<Self> {
+        let frames: Vec<(f64, f64)> = self.left.iter().copied().zip(self.right.iter().copied()).collect();
+        let mut out: Vec<Self> = halves(&frames)
+            .into_iter()
+            .map(|kept| {
+                let (left, right) = kept.into_iter().unzip();
+                Case { left: Signal(left), right: Signal(right) }
+            })
+            .collect();
+        for left in self.left.quieter().into_iter().filter(|left| left.len() == self.left.len()) {
+            out.push(Case { left, ..self.clone() });
+        }
+        for right in self.right.quieter().into_iter().filter(|right| right.len() == self.right.len()) {
+            out.push(Case { right, ..self.clone() });
+        }
+        out
+    }
+}
+
+pub fn run(rng: &mut Rng, budget: Budget) -> Report {
+    lists::run::<Case>(rng, budget)
+}

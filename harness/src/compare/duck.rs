@@ -1,0 +1,100 @@
+//! The duck's gain, sample by sample, under runs with and without drums.
+
+use oracle::stream::lanes::Duck;
+use oracle::synth::{SIDECHAIN_ATTACK_S, SIDECHAIN_DB, SIDECHAIN_RELEASE_S};
+
+use super::lists::{self, List};
+use crate::part;
+use crate::report::{Budget, Report};
+use crate::rng::Rng;
+use crate::setup::{RATE, Setup};
+use crate::shrink::{Shrink, each_without};
+
+/// Runs, each of some samples with its drums flag, from `start` on.
+#[derive(Clone, Debug)]
+struct Case {
+    kicks: Vec<u64>,
+    start: u64,
+    runs: Vec<(u64, bool)>,
+}
+
+impl Case {
+    /// Each sample's gain.
+    fn ours(&self) -> Vec<f64> {
+        let mut marks = vec![0; self.kicks.len()];
+        let mut cursors = [0; 2];
+        let mut n = self.start;
+        let mut out = Vec::new();
+        for &(len, drums) in &self.runs {
+            for _ in 0..len {
+                out.push(part::duck(&self.kicks, &mut marks, &mut cursors, n, drums));
+                n += 1;
+            }
+        }
+        out
+    }
+
+    fn oracle(&self) -> Vec<f64> {
+        let kicks: Vec<usize> = self.kicks.iter().map(|&kick| kick as usize).collect();
+        let mut duck = Duck::new(&kicks, SIDECHAIN_DB, SIDECHAIN_ATTACK_S, SIDECHAIN_RELEASE_S, RATE);
+        let mut n = self.start as usize;
+        let mut out = Vec::new();
+        for &(len, drums) in &self.runs {
+            duck.reach(n + len as usize, drums);
+            for _ in 0..len {
+                out.push(duck.gain(n));
+                n += 1;
+            }
+        }
+        out
+    }
+}
+
+impl List for Case {
+    fn drawn(rng: &mut Rng) -> Self {
+        let start = if rng.flag() { 0 } else { rng.below(1 << 31) };
+        let span = rng.scaled(32.0, 40000.0) as u64;
+        let setup = Setup::drawn(rng, span);
+        let kicks = setup.kicks.iter().map(|kick| (kick + start).min(1 << 32)).collect();
+        let mut runs = Vec::new();
+        let mut left = span;
+        while left > 0 {
+            let len = (rng.scaled(1.0, 4096.0) as u64).min(left);
+            runs.push((len, !rng.once_in(3)));
+            left -= len;
+        }
+        Self { kicks, start, runs }
+    }
+
+    fn samples(&self) -> u64 {
+        self.runs.iter().map(|run| run.0).sum()
+    }
+
+    fn difference(&self) -> Option<String> {
+        lists::first("gain", &self.ours(), &self.oracle())
+    }
+}
+
+impl Shrink for Case {
+    fn smaller(&self) -> Vec<Self> {
+        let mut out = Vec::new();
+        for kicks in each_without(&self.kicks) {
+            out.push(Case { kicks, ..self.clone() });
+        }
+        for runs in each_without(&self.runs) {
+            out.push(Case { runs, ..self.clone() });
+        }
+        for (i, &(len, drums)) in self.runs.iter().enumerate().filter(|(_, run)| run.0 > 1) {
+            for shorter in [len / 2, len - 1] {
+                let mut runs = self.runs.clone();
+                runs[i] = (shorter, drums);
+                out.push(Case { runs, ..self.clone() });
+            }
+        }
+        out
+    }
+}
+
+pub fn run(rng: &mut Rng, budget: Budget) -> Report {
+    lists::run::<Case>(rng, budget)
+}

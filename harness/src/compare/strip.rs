@@ -1,0 +1,202 @@
+//! Lists of calls: open, runs, latches and rests, accepted and declined, in one strip and one pair of stores.
+
+use super::lists::{self, List};
+use super::tape::length;
+use crate::part::{self, COUNTS, STORE, Written};
+use crate::report::{Budget, Report};
+use crate::rng::Rng;
+use crate::setup::{Setup, control};
+use crate::shrink::{Shrink, each_without};
+use crate::signal::{self, Signal};
+use crate::strip::{Strip, why_not};
+
+/// A call, and what is wrong with what is lent to it: bits 1 and 2, the frame and the count output one element short;
+/// bits 4 and 8, a store one element short; bits 16 and 32, the outputs one element long.
+#[derive(Clone, Debug)]
+pub enum Call {
+    Run { samples: Signal, drums: bool, wrong: u64 },
+    Latch { to: [f32; 2], over: [u64; 2], wrong: u64 },
+    Rest { wrong: u64 },
+}
+
+/// Elements lent past the lengths that 01 names, which no call may touch.
+#[derive(Clone, Debug)]
+struct Case {
+    setup: Setup,
+    beyond: usize,
+    calls: Vec<Call>,
+}
+
+/// What an output holds before any call.
+const NO_FRAME: f32 = -7.0;
+const NO_GAIN: u64 = 77;
+const NO_ANSWER: u64 = 99;
+/// What the stores hold beyond.
+const BEYOND: f64 = -3.0;
+/// Rest's answers are 100 and 101, so that no number is taken for one.
+const REST: u64 = 100;
+
+impl Call {
+    pub fn words(&self) -> [u64; 5] {
+        match self {
+            Call::Run { samples, drums, wrong } => [0, samples.len() as u64, u64::from(*drums), 0, *wrong],
+            Call::Latch { to, over, wrong } => {
+                let controls = u64::from(to[0].to_bits()) << 32 | u64::from(to[1].to_bits());
+                [1, controls, over[0], over[1], *wrong]
+            }
+            Call::Rest { wrong } => [2, 0, 0, 0, *wrong],
+        }
+    }
+
+    pub fn samples(&self) -> &[f64] {
+        if let Call::Run { samples, .. } = self { samples } else { &[] }
+    }
+
+    /// A call, declined once in some.
+    pub fn drawn(rng: &mut Rng) -> Self {
+        let wrong = if rng.once_in(12) { 1 << rng.below(6) } else { 0 };
+        match rng.below(6) {
+            0 => Call::Rest { wrong: wrong & 12 },
+            1 | 2 => {
+                let mut to = [control(rng), control(rng)];
+                let mut over = [length(rng), length(rng)];
+                if rng.once_in(8) {
+                    to[rng.below(2) as usize] = rng.pick(&[f32::NAN, -1e-45, 1.0000001, f32::INFINITY]);
+                }
+                if rng.once_in(12) {
+                    over[rng.below(2) as usize] = rng.pick(&[(1 << 32) + 1, u64::MAX]);
+                }
+                Call::Latch { to, over, wrong: wrong & 12 }
+            }
+            _ => {
+                let len = rng.scaled(1.0, 4000.0) as usize - 1;
+                let Signal(mut samples) = signal::drawn(rng, len);
+                if len > 0 && rng.once_in(12) {
+                    let at = rng.below(len as u64) as usize;
+                    samples[at] = rng.pick(&[f64::NAN, f64::INFINITY, 1024.0000000000002, -1025.0]);
+                }
+                Call::Run { samples: Signal(samples), drums: rng.flag(), wrong }
+            }
+        }
+    }
+}
+
+impl Case {
+    fn outputs(&self) -> Written {
+        let many: usize = self.calls.iter().map(|call| call.samples().len()).sum();
+        Written {
+            frames: vec![NO_FRAME; 2 * many + 1],
+            gains: vec![NO_GAIN; many + 1],
+            answers: vec![NO_ANSWER; self.calls.len() + 1],
+        }
+    }
+
+    /// What the part wrote, and whether the elements beyond are as they were.
+    fn ours(&self) -> (Written, bool) {
+        let mut store = vec![BEYOND; STORE + self.beyond];
+        let mut counts = vec![NO_GAIN; COUNTS + self.beyond];
+        let words: Vec<[u64; 5]> = self.calls.iter().map(Call::words).collect();
+        let samples: Vec<f64> = self.calls.iter().flat_map(Call::samples).copied().collect();
+        let mut written = self.outputs();
+        part::calls(&self.setup, (&mut store, &mut counts), &words, &samples, &mut written);
+        let kept = store[STORE..].iter().all(|&x| x == BEYOND) && counts[COUNTS..].iter().all(|&n| n == NO_GAIN);
+        (written, kept)
+    }
+
+    fn oracle(&self) -> Written {
+        let mut out = self.outputs();
+        out.answers[0] = why_not(&self.setup);
+        if out.answers[0] != 0 {
+            return out;
+        }
+        let mut strip = Strip::open(&self.setup);
+        let mut at = 0;
+        for (i, call) in self.calls.iter().enumerate() {
+            let len = call.samples().len();
+            out.answers[i + 1] = match call {
+                Call::Run { wrong, .. } | Call::Latch { wrong, .. } | Call::Rest { wrong } if wrong & 12 != 0 => 1,
+                // an output that has no elements cannot be one short of them
+                Call::Run { wrong, .. } if wrong & 48 != 0 || (wrong & 3 != 0 && len > 0) => 5,
+                Call::Run { samples, drums, .. } => match strip.run(samples, *drums) {
+                    Ok((frames, gains)) => {
+                        out.frames[2 * at..2 * (at + len)].copy_from_slice(&frames);
+                        out.gains[at..at + len].copy_from_slice(&gains);
+                        0
+                    }
+                    Err(number) => number,
+                },
+                Call::Latch { to, over, .. } => strip.latch(*to, *over),
+                Call::Rest { .. } => REST + u64::from(strip.rest()),
+            };
+            at += len;
+        }
+        out
+    }
+}
+
+impl List for Case {
+    fn drawn(rng: &mut Rng) -> Self {
+        let many = 1 + rng.below(16) as usize;
+        let calls: Vec<Call> = (0..many).map(|_| Call::drawn(rng)).collect();
+        let span = calls.iter().map(|call| call.samples().len() as u64).sum();
+        let mut setup = Setup::drawn(rng, span);
+        if rng.once_in(16) {
+            spoil(rng, &mut setup);
+        }
+        Self { setup, beyond: rng.below(3) as usize * 5, calls }
+    }
+
+    fn samples(&self) -> u64 {
+        self.calls.iter().map(|call| call.samples().len() as u64).sum()
+    }
+
+    fn difference(&self) -> Option<String> {
+        let ((ours, kept), oracle) = (self.ours(), self.oracle());
+        lists::first("answer", &ours.answers, &oracle.answers)
+            .or_else(|| lists::first("gain count", &ours.gains, &oracle.gains))
+            .or_else(|| lists::first("side", &ours.frames, &oracle.frames))
+            .or_else(|| lists::first("elements beyond kept", &[kept], &[true]))
+    }
+}
+
+/// One number or list outside its range.
+pub fn spoil(rng: &mut Rng, s: &mut Setup) {
+    match rng.below(10) {
+        0 => s.corners[0] = rng.pick(&[19.999998, 20000.002, f32::NAN, f32::INFINITY]),
+        1 => s.drive = rng.pick(&[0.09999999999999999, 8.000000000000002, f64::NAN]),
+        2 => s.gains[rng.below(2) as usize] = rng.pick(&[-1e-300, 16.000000000000004, f64::NAN]),
+        3 => s.daylight = rng.pick(&[-1e-45, 1.0000001, f32::NAN]),
+        4 => s.rain = rng.pick(&[-1e-45, 1.0000001, f32::NAN]),
+        5 => s.send = rng.pick(&[-1e-300, 1.0000000000000002, f64::NAN]),
+        6 => s.points = vec![0; s.values.len() + 1],
+        7 => s.kicks = rng.pick(&[[1, 0], [0, (1 << 32) + 1]]).to_vec(),
+        8 => s.kicks = vec![0; 1025],
+        _ => (s.points, s.values) = (vec![7], vec![rng.pick(&[f64::NAN, -1e-300, 1.0000000000000002])]),
+    }
+}
+
+impl Shrink for Case {
+    fn smaller(&self) -> Vec<Self> {
+        let mut out = Vec::new();
+        for calls in each_without(&self.calls) {
+            out.push(Case { calls, ..self.clone() });
+        }
+        for setup in self.setup.smaller() {
+            out.push(Case { setup, ..self.clone() });
+        }
+        for (i, call) in self.calls.iter().enumerate() {
+            if let Call::Run { samples, drums, wrong } = call {
+                for samples in samples.quieter() {
+                    let mut calls = self.calls.clone();
+                    calls[i] = Call::Run { samples, drums: *drums, wrong: *wrong };
+                    out.push(Case { calls, ..self.clone() });
+                }
+            }
+        }
+        out
+    }
+}
+
+pub fn run(rng: &mut Rng, budget: Budget) -> Report {
+    lists::run::<Case>(rng, budget)
+}

@@ -1,0 +1,111 @@
+//! The oracle's strip: the Rust's Tape, Plate and Ceiling joined as 01 says, with 01's refusals of a list of calls.
+
+use oracle::Controls;
+use oracle::stream::lanes::{Automation, Tape};
+use oracle::stream::master::Ceiling;
+use oracle::stream::plate::Plate;
+
+use crate::compare::ceiling::limited;
+use crate::setup::{RATE, Setup};
+
+/// Positions are at most this.
+pub const END: u64 = 1 << 32;
+
+pub struct Strip {
+    automation: Automation,
+    tape: Tape,
+    send: f64,
+    plate: Plate,
+    ceiling: Ceiling,
+    n: u64,
+}
+
+/// NaN is in no range.
+fn within<T: PartialOrd>(x: T, a: T, b: T) -> bool {
+    a <= x && x <= b
+}
+
+/// 2: a setup number is NaN or outside its range.
+fn numbers_fit(s: &Setup) -> bool {
+    let tone = if s.graded {
+        s.corners.iter().all(|&c| within(c, 20.0, 20_000.0)) && s.drives.iter().all(|&d| within(f64::from(d), 0.1, 8.0))
+    } else {
+        within(s.corners[0], 20.0, 20_000.0) && within(s.drive, 0.1, 8.0)
+    };
+    tone && s.pad.is_none_or(|[rate, depth]| within(rate, 0.0, 20.0) && within(depth, 0.0, 1.0))
+        && s.gains.iter().all(|&g| within(g, 0.0, 16.0))
+        && within(s.daylight, 0.0, 1.0)
+        && within(s.rain, 0.0, 1.0)
+        && within(s.send, 0.0, 1.0)
+}
+
+/// 3: a list is too long, falls, has positions and values unequal in number, a value outside 0 to 1 or NaN, or a
+/// position above 2^32.
+fn lists_fit(s: &Setup) -> bool {
+    s.points.len() <= 256
+        && s.kicks.len() <= 1024
+        && s.points.len() == s.values.len()
+        && s.points.is_sorted()
+        && s.kicks.is_sorted()
+        && s.values.iter().all(|&v| within(v, 0.0, 1.0))
+        && s.points.iter().chain(&s.kicks).all(|&at| at <= END)
+}
+
+/// What open declines by, or 0.
+pub fn why_not(setup: &Setup) -> u64 {
+    if !numbers_fit(setup) {
+        2
+    } else if !lists_fit(setup) {
+        3
+    } else {
+        0
+    }
+}
+
+impl Strip {
+    /// A strip of a setup that `why_not` passes.
+    pub fn open(setup: &Setup) -> Self {
+        let automation = setup.automation();
+        Self {
+            tape: setup.tape(&automation),
+            automation,
+            send: setup.send,
+            plate: Plate::new(RATE),
+            ceiling: Ceiling::new(RATE),
+            n: 0,
+        }
+    }
+
+    /// What a run of exact outputs declines by, or 0 with its frames and gain counts.
+    pub fn run(&mut self, samples: &[f64], drums: bool) -> Result<(Vec<f32>, Vec<u64>), u64> {
+        if self.n + samples.len() as u64 > END {
+            return Err(6);
+        }
+        if !samples.iter().all(|x| x.abs() <= 1024.0) {
+            return Err(7);
+        }
+        let mut y = samples.to_vec();
+        self.tape.process(&mut y, self.n as usize, &self.automation, drums, &mut Vec::new());
+        let sent: Vec<f64> = y.iter().map(|y| y * self.send).collect();
+        let mut sides = [Vec::new(), Vec::new()];
+        self.plate.process(&sent, &mut sides);
+        let frames: Vec<[f64; 2]> =
+            y.iter().enumerate().map(|(i, y)| [y + sides[0][i], y + sides[1][i]]).collect();
+        self.n += samples.len() as u64;
+        Ok(limited(&mut self.ceiling, &frames))
+    }
+
+    /// What a latch declines by, or 0.
+    pub fn latch(&mut self, [daylight, rain]: [f32; 2], over: [u64; 2]) -> u64 {
+        if !within(daylight, 0.0, 1.0) || !within(rain, 0.0, 1.0) || over.iter().any(|&len| len > END) {
+            return 8;
+        }
+        let [grade_ramp, rain_ramp] = over.map(|len| len as usize);
+        self.automation.latch(self.n as usize, Controls { daylight, rain }, grade_ramp, rain_ramp);
+        0
+    }
+
+    pub fn rest(&self) -> bool {
+        self.tape.at_rest() && self.plate.at_rest()
+    }
+}
