@@ -106,12 +106,11 @@ module _ {S T X Y : Type 0} (R : ℕ → S → T → Type 0) (f : Stage S X Y) (
       rw z (related-ran (n + 1) (f n s x .next) (g n t x .next) xs (r .keeps n s t x h))
 
 -- and so two such in a row
-pub Both : {A A′ B B′ : Type 0} → (ℕ → A → A′ → Type 0) → (ℕ → B → B′ → Type 0) → ℕ → A × B → A′ × B′ → Type 0
+abbrev pub Both : {A A′ B B′ : Type 0} → (ℕ → A → A′ → Type 0) → (ℕ → B → B′ → Type 0) → ℕ → A × B → A′ × B′ → Type 0
 Both P Q n s t = P n (s .0) (t .0) × Q n (s .1) (t .1)
 
 pub relates-both : {A A′ B B′ X Y Z : Type 0} (P : ℕ → A → A′ → Type 0) (Q : ℕ → B → B′ → Type 0) (f : Stage A X Y) (f′ : Stage A′ X Y) (g : Stage B Y Z) (g′ : Stage B′ Y Z)
     → Relates P f f′ → Relates Q g g′ → Relates (Both P Q) (both f g) (both f′ g′)
-unfolding Both
 relates-both {Y = Y} P Q f f′ g g′ p q =
     record {
       keeps = λ n s t x h. (

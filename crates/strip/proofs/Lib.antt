@@ -1,3 +1,7 @@
 pub mod Parts
 pub mod Sizes
 pub mod Chain
+pub mod Related
+pub mod Opening
+pub mod Joined
+pub mod Bound

@@ -104,7 +104,7 @@ expected r m (c ∷ cs) = says r m c ∷ expected r (fedAll r m (feeds (m .posit
 
 -- "A list of calls starts with the strip and stores just as open left them, and with the machine fresh under the same setup, points and kicks."
 -- For every setup, lists and stores from which open gives a strip, and for every list of calls: every answer is the machine's. Floats are equal as values, all NaNs being one.
-pub Joined : Rate → Type 0
+unfoldable pub Joined : Rate → Type 0
 Joined r =
     (s : Setup) (l : Lists) (store : List Float) (counts : List ℕ) (t : Strip) → openCall r s l store counts .answer ≡ opened.the-variants.Strip t
     → (cs : List Call) → through r (state t (openCall r s l store counts .store) (openCall r s l store counts .counts)) cs ≡ expected r (fresh r s l) cs
@@ -159,7 +159,7 @@ mixedFrom r m [] = []
 mixedFrom r m (e ∷ es) = mixes r m e ++ mixedFrom r (fed r m e) es
 
 -- "a delivered frame's need is that of the frame 220 back which it comes from": each joined count after the first 220 is at most 221 times the whole part of 2^40 · that need
-pub Bounded : Rate → Type 0
+unfoldable pub Bounded : Rate → Type 0
 Bounded r =
     (s : Setup) (l : Lists) (es : List Event) (i : ℕ) → i < length (heardFrom r (fresh r s l) es) → r .ceiling .ahead ≤ i
     → getD (countsOut (heardFrom r (fresh r s l) es)) i 0 ≤ suc (r .ceiling .ahead) * stepOf (needOf (r .ceiling) (getD (mixedFrom r (fresh r s l) es) (i - r .ceiling .ahead) silence))

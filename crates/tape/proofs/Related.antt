@@ -8,6 +8,7 @@ use native.Mathlib.Omega.{arith}
 use lib.ListN.{length, take, drop, replicate, length-set, length-replicate}
 use lib.Seq.{take-all}
 use lib.Ieee.{Float}
+use borrow.Author.Tests.{le-leb}
 use Rattle.casts.specs.Arithmetic.{nought}
 use Rattle.stage.specs.Stage.{Step, Stage, identity}
 use Rattle.stage.proofs.Laws.{Relates}
@@ -21,7 +22,7 @@ use Rattle.rate.specs.Tape.{TapeUsable}
 use Rattle.duck.specs.declared.DuckRate.{DuckRate}
 use Rattle.duck.specs.Rising.{risingFrom}
 use Rattle.duck.specs.Sidechain.{unmarked}
-use Rattle.duck.specs.Cursors.{DuckIn, duckOn, kicksIn, laid, Within, duckStepOn}
+use Rattle.duck.specs.Cursors.{DuckIn, duckOn, kicksIn, laid, Within, duckStepOn, duckFormed}
 use Rattle.duck.proofs.Loops.{gain-sized}
 use Rattle.duck.proofs.Related.{DuckHolds, duck-relates, duck-fresh}
 use Rattle.automation.specs.Automation.{tuningAt}
@@ -138,3 +139,12 @@ module _ (r : TapeRate) (s : TapeSetup) (daylight rain : Ramp) (l : Lists) (d : 
   pub counts-sized : length (tapeStepOn r s daylight rain l d n t x .next .counts) ≡ length (t .counts)
   unfolding tapeStepOn tapeTuned
   counts-sized = ducked-sized (r .duck) (s .ducked) d n (duckOn (t .tape .duck) (t .counts)) _
+
+-- ---- refusal 4 does not decline such a lane's duck
+
+pub tape-formed : (r : TapeRate) (ducked : Bool) (kicks : List ℕ) (n : ℕ) (m : TapeMachine) (t : TapeIn) → TapeHolds r ducked kicks n m t → duckFormed (duckOn (t .tape .duck) (t .counts)) ≡ true
+unfolding duckFormed
+tape-formed r ducked kicks n m t h =
+    let d = h .duck in
+    let w = d .within in
+    rw (le-leb _ _ (w .few), le-leb _ _ (w .reached), le-leb _ _ (w .ducking), d .kept) (d .risen)

@@ -1,0 +1,45 @@
+-- The gain bound of every list of samples and latches (specs/Promise.antt, `Bounded`): a corollary of the ceiling's. Assumes nothing.
+use mathlib.Core.Path.{_≡_, refl, sym, ap, subst, _∙_}
+use mathlib.Core.Bool.{Bool}
+use Prim.Native.Nat.{ℕ, suc, _+_, _-_, _*_, _<_, _≤_}
+use native.Mathlib.Omega.{arith}
+use mathlib.Core.List.{List, [], _∷_, _++_, map}
+use lib.ListN.{length, getD, List·getD-map}
+use lib.Ieee.{Float}
+use Rattle.casts.specs.Arithmetic.{nought}
+use Rattle.casts.specs.Step.{stepOf}
+use Rattle.stage.specs.Stage.{Step, Stage, outs}
+use Rattle.stage.proofs.Laws.{outs-length}
+use Rattle.stream.specs.declared.Frame.{Frame}
+use Rattle.rate.specs.declared.Rate.{Rate}
+use Rattle.rate.specs.Rate.{RateUsable}
+use Rattle.tape.specs.Tape.{Lists}
+use Rattle.master.specs.declared.Heard.{Heard}
+use Rattle.master.specs.Ceiling.{CeilingMachine, needOf, silence, ceilingStep, freshMachine}
+use Rattle.master.specs.Kept.{countsOut}
+use Rattle.master.proofs.Delivered.{machine-bound}
+use Rattle.strip.specs.declared.Setup.{Setup}
+use Rattle.strip.specs.Machine.{Machine, Event, sample, latch, fresh, stepped, latched, fed, delivers, heardFrom}
+use Rattle.strip.specs.Promise.{mixes, mixedFrom, Bounded}
+
+-- the machine hears what its ceiling gives for the mixed frames
+pub heard-are : (r : Rate) (es : List Event) (m : Machine) → heardFrom r m es ≡ outs (ceilingStep (r .ceiling)) (m .position) (m .ceiling) (mixedFrom r m es)
+unfolding heardFrom mixedFrom outs delivers mixes fed stepped latched
+heard-are r [] m = refl
+heard-are r (sample x d ∷ es) m = ap (λ (l : List Heard). stepped r m x d .out ∷ l) (heard-are r es (stepped r m x d .next))
+heard-are r (latch c ∷ es) m = heard-are r es (latched m c)
+
+from-fresh : (r : Rate) (s : Setup) (l : Lists) (es : List Event) → heardFrom r (fresh r s l) es ≡ outs (ceilingStep (r .ceiling)) 0 freshMachine (mixedFrom r (fresh r s l) es)
+unfolding fresh
+from-fresh r s l es = heard-are r es (fresh r s l)
+
+pub bounded : (r : Rate) → RateUsable r → Bounded r
+unfolding Bounded
+bounded r u s l es i h k =
+    let fs = mixedFrom r (fresh r s l) es in
+    let e : heardFrom r (fresh r s l) es ≡ outs (ceilingStep (r .ceiling)) 0 freshMachine fs = from-fresh r s l es in
+    let n : i < length fs = omega (arith, ap length e, outs-length (ceilingStep (r .ceiling)) 0 freshMachine fs) in
+    let nothing : Heard = record { left = nought; right = nought; count = 0 } in
+    let c : getD (countsOut (heardFrom r (fresh r s l) es)) i 0 ≡ getD (outs (ceilingStep (r .ceiling)) 0 freshMachine fs) i nothing .count =
+    ap (λ (l : List Heard). getD (countsOut l) i 0) e ∙ List·getD-map (λ (v : Heard). v .count) (outs (ceilingStep (r .ceiling)) 0 freshMachine fs) i nothing in
+    rw c (machine-bound (r .ceiling) (u .ceiling) fs i nothing n k)
