@@ -1,0 +1,3 @@
+pub mod Mix
+pub mod Stages
+pub mod Rooms

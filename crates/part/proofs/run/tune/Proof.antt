@@ -1,0 +1,17 @@
+use borrow.Author.Needs.{needs}
+use Rattle.part.proofs.run.tune.Statement.{statement}
+use Rattle.part.proofs.run.tune.Tie as tie
+use Rattle.part.proofs.run.tune.Reads as reads
+use Rattle.part.proofs.run.tune.Lts as lts
+use Rattle.biquad.proofs.Lowpass.retuned.Reads as retuned-reads
+
+-- src/run.rt:86:9
+retuned-requires : tie.Need-retuned-requires
+retuned-requires c κs = search needs
+
+-- src/run.rt:83:1
+returns : tie.Need-returns
+returns c = rw (c .before .before .retuned .ensures)
+
+pub tune-spec : {M : Type 1} → statement M
+tune-spec = tie.close (tie.spec retuned-requires returns)

@@ -1,0 +1,2 @@
+-- What the contracts of the calls' code cite beside the definitions of crate strip.
+pub mod Run

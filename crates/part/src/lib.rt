@@ -1,0 +1,3 @@
+// The four calls: open, run, latch, rest.
+mod places;
+pub mod run;
