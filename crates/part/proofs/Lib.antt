@@ -1,3 +1,4 @@
 pub mod Mix
 pub mod Stages
 pub mod Rooms
+pub mod Going

@@ -63,3 +63,10 @@ module _ (r : Rate) (l : List Float) (u : List ℕ) (room : valuesAt r ≤ lengt
   pub ceiling-well : (k : Ceiling) → T (wellFormed (r .ceiling) (ceilingOn k (take (ceilingSamples r) (drop (tapeSamples r + plateSamples r) l)) (take (ceilingCounts r) (drop tapeCounts u))))
       → T (wellFormed (r .ceiling) (ceilingOn k (midOf b (c - b) (putMid a (b - a) (putMid 0 (a - 0) l A) B)) (midOf 2048 (e - 2048) (putMid 0 2048 u U))))
   ceiling-well k t = rw (third-lent, gains-lent) t
+
+-- the front of an array that was lent and has come back
+pub mid-put : {X : Type 0} (k : ℕ) (xs ys : List X) → length ys ≡ k → midOf 0 k (putMid 0 k xs ys) ≡ ys
+mid-put k xs ys e = lib.Seq.take-at ys (drop k xs) k e
+
+pub room : {X : Type 0} (k j : ℕ) (xs ys : List X) → length ys ≡ length (midOf 0 k xs) → j ≤ length xs → j ≤ length (putMid 0 k xs ys)
+room k j xs ys e h = rw (borrow.Rule.Slice.PartMut.same-len-mid 0 k xs ys e) h

@@ -169,3 +169,125 @@ fn stages(
         ceiling,
     }
 }
+
+// From samples to frames, by way of three arrays.
+fn block(
+    rate: Rate,
+    strip: Strip,
+    tuning: Tuning,
+    samples: &[f64],
+    drums: bool,
+    frames: &mut [f32],
+    gains: &mut [u64],
+    store: &mut [f64],
+    counts: &mut [u64],
+) -> Strip
+    requires { ⌜ RateUsable rate ⌝ }
+    requires { ⌜ Runs rate (state strip (now store) (now counts)) ⌝ }
+    requires { ⌜ tuning ≡ tuningOf rate (state strip (now store) (now counts)) ⌝ }
+    requires { ⌜ Piecewise rate (state strip (now store) (now counts)) (length (now samples)) ⌝ }
+    requires { ⌜ (length (now samples) ≤ 32) × (length (now frames) ≡ 2 * length (now samples)) × (length (now gains) ≡ length (now samples)) ⌝ }
+    ensures { λ r. ⌜ ranAll r (now (store .exit)) (now (counts .exit)) (now (frames .exit)) (now (gains .exit)) ≡ allRan rate drums (state strip (now (store .entry)) (now (counts .entry))) (now (samples .entry)) ⌝ }
+{
+    let k = samples.len();
+    let mut dry = [0.0f64; BLOCK];
+    let mut left = [0.0f64; BLOCK];
+    let mut right = [0.0f64; BLOCK];
+    copy(samples, &mut dry[0..k]);
+    stages(
+        rate,
+        strip,
+        tuning,
+        drums,
+        &mut dry[0..k],
+        &mut left[0..k],
+        &mut right[0..k],
+        frames,
+        gains,
+        store,
+        counts,
+    )
+}
+
+fn copy(samples: &[f64], block: &mut [f64])
+    requires { ⌜ length (now block) ≡ length (now samples) ⌝ }
+    ensures { λ _. ⌜ now (block .exit) ≡ now (samples .entry) ⌝ }
+{
+    let mut i: usize = 0;
+    while i < samples.len() {
+        block[i] = samples[i];
+        i += 1;
+    }
+}
+
+// ---- a run's samples, piece by piece
+
+// The tuning of the next sample, and how many samples it lasts.
+fn piece(rate: Rate, strip: Strip, store: &[f64], counts: &[u64]) -> Piece
+    requires { ⌜ RateUsable rate ⌝ }
+    requires { ⌜ Runs rate (state strip (now store) (now counts)) ⌝ }
+    ensures { λ r. ⌜ r ≡ pieceOf rate (state strip (now (store .entry)) (now (counts .entry))) ⌝ }
+{
+    let values_at = places::values_at(rate);
+    let positions_at = places::positions_at(rate);
+    let points = strip.points;
+    let values_end = values_at + points;
+    let positions_end = positions_at + points;
+    let setup = strip.setup;
+    let lane = setup.tape;
+    let tone = lane.tone;
+    let daylight = strip.daylight;
+    automation::piece_at(
+        tone,
+        daylight,
+        &counts[positions_at..positions_end],
+        &store[values_at..values_end],
+        strip.position,
+    )
+}
+
+fn least(a: u64, b: usize) -> usize
+    ensures { λ r. ⌜ (r ≤ a) × (r ≤ b) × (0 < a → 0 < b → 0 < r) ⌝ }
+{
+    if a < b as u64 { a as usize } else { b }
+}
+
+pub fn go(
+    rate: Rate,
+    strip: Strip,
+    samples: &[f64],
+    drums: bool,
+    frames: &mut [f32],
+    gains: &mut [u64],
+    store: &mut [f64],
+    counts: &mut [u64],
+) -> Strip
+    requires { ⌜ RateUsable rate ⌝ }
+    requires { ⌜ Runs rate (state strip (now store) (now counts)) ⌝ }
+    requires { ⌜ strip .position + length (now samples) ≤ 4294967296 ⌝ }
+    requires { ⌜ (length (now frames) ≡ 2 * length (now samples)) × (length (now gains) ≡ length (now samples)) ⌝ }
+    ensures { λ r. ⌜ ranAll r (now (store .exit)) (now (counts .exit)) (now (frames .exit)) (now (gains .exit)) ≡ allRan rate drums (state strip (now (store .entry)) (now (counts .entry))) (now (samples .entry)) ⌝ }
+{
+    let mut strip = strip;
+    let mut i: usize = 0;
+    while i < samples.len() {
+        let p = piece(rate, strip, store, counts);
+        let e = i + least(p.len, samples.len() - i);
+        let from = 2 * i;
+        let to = 2 * e;
+        let tuning = p.tuning;
+        strip = block(
+            rate,
+            strip,
+            tuning,
+            &samples[i..e],
+            drums,
+            &mut frames[from..to],
+            &mut gains[i..e],
+            store,
+            counts,
+        );
+        i = e;
+    }
+    strip
+}

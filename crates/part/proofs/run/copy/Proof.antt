@@ -1,0 +1,73 @@
+use borrow.Author.Needs.{needs}
+use mathlib.Core.Path.{_≡_, refl}
+use Prim.Native.Nat.{_-_}
+use lib.ListN.{length, length-set}
+use lib.Ieee.{nan}
+use Rattle.stage.proofs.Loop.{Wrote, wrote-start, wrote-turn, wrote-done}
+use Rattle.part.proofs.run.copy.Statement.{statement}
+use Rattle.part.proofs.run.copy.Tie as tie
+use Rattle.part.proofs.run.copy.Reads as reads
+use Rattle.part.proofs.run.copy.Lts as lts
+
+abbrev Inv-loop : tie.InvT-loop
+Inv-loop samples block₀ i₀ block i = Wrote samples block i × (length block ≡ length samples)
+
+abbrev μ-loop : tie.MeasureT-loop
+μ-loop samples block₀ i₀ block i = length samples - i
+
+-- src/run.rt:217:5
+loop-holds : tie.Need-loop-holds Inv-loop μ-loop
+loop-holds c = (wrote-start _ _ (c .pre), c .pre)
+
+-- src/run.rt:218:20
+mul-block : tie.Need-mul-block Inv-loop μ-loop
+mul-block c = search needs
+
+-- src/run.rt:218:20
+shared-slice-read-block : tie.Need-shared-slice-read-block Inv-loop μ-loop
+shared-slice-read-block c = search needs
+
+-- src/run.rt:218:9
+mul-block-2 : tie.Need-mul-block-2 Inv-loop μ-loop
+mul-block-2 c = search needs
+
+-- src/run.rt:218:9
+slice-write-block : tie.Need-slice-write-block Inv-loop μ-loop
+slice-write-block c = search needs
+
+-- src/run.rt:219:9
+add-i : tie.Need-add-i Inv-loop μ-loop
+add-i c = search needs
+
+-- src/run.rt:217:5
+loop-less : tie.Need-loop-less Inv-loop μ-loop
+loop-less c = search needs
+
+-- src/run.rt:217:5
+loop-again : tie.Need-loop-again Inv-loop μ-loop
+loop-again c = let l = c .before .before .loop in (wrote-turn _ (l .block) (l .i) _ nan (l .inv .0) (c .before .loop-test .taken) refl, simp length-set (l .inv .1))
+
+-- src/run.rt:212:1
+same-length : tie.Need-same-length Inv-loop μ-loop
+same-length c = search needs
+
+-- src/run.rt:212:1
+returns : tie.Need-returns Inv-loop μ-loop
+returns c = let l = c .before .loop in wrote-done _ (l .block) (l .i) (l .inv .0) (c .loop-test .left)
+
+pub copy-spec : {M : Type 1} → statement M
+copy-spec =
+    tie.close
+    (tie.spec
+    Inv-loop
+    μ-loop
+    loop-holds
+    mul-block
+    shared-slice-read-block
+    mul-block-2
+    slice-write-block
+    add-i
+    loop-less
+    loop-again
+    same-length
+    returns)
