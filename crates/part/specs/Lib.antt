@@ -1,2 +1,3 @@
--- What the contracts of the calls' code cite beside the definitions of crate strip.
+-- Whole effects of open and of its pieces as one value.
+pub mod Pieces
 pub mod Run

@@ -16,10 +16,11 @@ use Rattle.delay.specs.Delay.{linePush}
 use Rattle.rate.specs.declared.InputRate.{InputRate}
 use Rattle.rate.specs.declared.HalfRate.{HalfRate}
 use Rattle.rate.specs.declared.PlateRate.{PlateRate}
+use Rattle.allpass.specs.Allpass.{storedOf, gave, latticeOn, stretchedOn, delayOn}
 use Rattle.plate.specs.declared.Tank.{Tank}
 use Rattle.plate.specs.declared.Plate.{Plate}
-use Rattle.plate.specs.Machine.{inputDiffusion1, inputDiffusion2, decayDiffusion1, storedOf, stretchOf}
-use Rattle.plate.specs.Plate.{gave, latticeOn, stretchedOn, delayOn, inputOn, halfIn, halfOn, leavingOn, tapsOn, TankIn, tankIn, fedOn, halvesOn, returnedOn, tankOn, plateOn, plateStepOn}
+use Rattle.plate.specs.Machine.{inputDiffusion1, inputDiffusion2, decayDiffusion1, stretchOf}
+use Rattle.plate.specs.Plate.{inputOn, halfIn, halfOn, leavingOn, tapsOn, TankIn, tankIn, fedOn, halvesOn, returnedOn, tankOn, plateOn, plateStepOn}
 use Rattle.plate.proofs.Parts.{first-is, second-is, second-after, put-both}
 
 pub input-is : (r : InputRate) (n : ℕ) (s : List Float) (x : Float) (p a b c d : Step (List Float) Float) → p ≡ delayOn (r .predelay) n s x

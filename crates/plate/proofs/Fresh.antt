@@ -8,6 +8,7 @@ use lib.ListN.{length, take, drop, replicate, length-replicate, replicate-append
 use lib.Seq.{take-at, drop-at, take-add, take-all}
 use lib.Ieee.{Float}
 use Rattle.casts.specs.Arithmetic.{nought}
+use Rattle.onepole.specs.OnePole.{onePoleAt}
 use Rattle.delay.specs.Delay.{lineOf, allZero}
 use Rattle.delay.proofs.Rest.{zero-append, line-rest, line-fresh}
 use Rattle.rate.specs.declared.LineRate.{LineRate}
@@ -24,7 +25,7 @@ use Rattle.plate.proofs.Theorem.{PlateHolds}
 
 -- ---- fresh
 
-half-fresh : (r : HalfRate) → HalfUsable r → (n : ℕ) (pole : Float) → HalfHolds r n (freshHalf pole r) (halfIn (record { pole = pole; y = nought }) (replicate (r .places) nought))
+half-fresh : (r : HalfRate) → HalfUsable r → (n : ℕ) (pole : Float) → HalfHolds r n (freshHalf pole r) (halfIn (onePoleAt pole) (replicate (r .places) nought))
 unfolding freshHalf
 half-fresh r u n pole =
     let e : length (replicate (r .places) nought) ≡ r .places = length-replicate (r .places) nought in

@@ -14,9 +14,10 @@ use Rattle.delay.specs.Delay.{linePush, lineOf}
 use Rattle.delay.proofs.Line.{line-push, line-at}
 use Rattle.rate.specs.declared.HalfRate.{HalfRate}
 use Rattle.rate.specs.Plate.{HalfUsable}
-use Rattle.plate.specs.Machine.{decayDiffusion1, storedOf, latticeStep, stretchedStep, delayStep, HalfMachine, halfStep, leaving}
-use Rattle.plate.specs.Plate.{latticeOn, stretchedOn, delayOn, HalfIn, halfOn, leavingOn}
-use Rattle.plate.proofs.Lines.{Pushed, Does, push-pushed, lattice-does, stretched-does, delay-does}
+use Rattle.allpass.specs.Allpass.{storedOf, latticeStep, stretchedStep, delayStep, latticeOn, stretchedOn, delayOn}
+use Rattle.plate.specs.Machine.{decayDiffusion1, HalfMachine, halfStep, leaving}
+use Rattle.plate.specs.Plate.{HalfIn, halfOn, leavingOn}
+use Rattle.allpass.proofs.Lines.{Pushed, Does, push-pushed, lattice-does, stretched-does, delay-does}
 
 pub record HalfHolds (r : HalfRate) (n : ℕ) (m : HalfMachine) (s : HalfIn) : Type 0 where
   pub diffuser1 : m .diffuser1 ≡ lineOf (r .diffuser1 .line) (s .part) n

@@ -10,9 +10,10 @@ use Rattle.stage.specs.Stage.{Step}
 use Rattle.delay.specs.Delay.{lineOf}
 use Rattle.rate.specs.declared.InputRate.{InputRate}
 use Rattle.rate.specs.Plate.{InputUsable}
-use Rattle.plate.specs.Machine.{inputDiffusion1, inputDiffusion2, latticeStep, delayStep, InputMachine, inputStep}
-use Rattle.plate.specs.Plate.{latticeOn, delayOn, inputOn}
-use Rattle.plate.proofs.Lines.{Does, lattice-does, delay-does}
+use Rattle.allpass.specs.Allpass.{latticeStep, delayStep, latticeOn, delayOn}
+use Rattle.plate.specs.Machine.{inputDiffusion1, inputDiffusion2, InputMachine, inputStep}
+use Rattle.plate.specs.Plate.{inputOn}
+use Rattle.allpass.proofs.Lines.{Does, lattice-does, delay-does}
 
 pub record InputHolds (r : InputRate) (n : ℕ) (m : InputMachine) (s : List Float) : Type 0 where
   pub predelay : m .predelay ≡ lineOf (r .predelay .line) s n

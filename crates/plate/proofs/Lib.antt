@@ -3,7 +3,6 @@ pub mod Parts
 pub mod Room
 pub mod Calls
 pub mod Turns
-pub mod Lines
 pub mod InputHeld
 pub mod HalfHeld
 pub mod Theorem

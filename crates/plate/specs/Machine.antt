@@ -9,12 +9,12 @@ use Rattle.casts.specs.Arithmetic.{_⊕_, _⊖_, _⊗_, _⊘_, whole, nought, o
 use Rattle.elementary.specs.Elementary.{SIN, COS, TAU}
 use Rattle.stage.specs.Stage.{Step, Stage}
 use Rattle.stream.specs.declared.Frame.{Frame}
-use Rattle.stream.specs.Stream.{flushed}
 use Rattle.onepole.specs.declared.OnePole.{OnePole}
-use Rattle.onepole.specs.OnePole.{onePoleStep, onePoleAtRest}
+use Rattle.onepole.specs.OnePole.{onePoleAt, onePoleStep, onePoleAtRest}
 use Rattle.biquad.specs.declared.Section.{Section}
 use Rattle.biquad.specs.Section.{sectionAt, sectionStep, sectionAtRest}
-use Rattle.delay.specs.Delay.{pushOf, atOf, tapOf, allZero}
+use Rattle.delay.specs.Delay.{pushOf, atOf, allZero}
+use Rattle.allpass.specs.Allpass.{storedOf, latticeStep, stretchedStep, delayStep}
 use Rattle.rate.specs.declared.LineRate.{LineRate}
 use Rattle.rate.specs.declared.InputRate.{InputRate}
 use Rattle.rate.specs.declared.HalfRate.{HalfRate}
@@ -34,32 +34,6 @@ decayDiffusion1 = ofBits binary64 0xbfe6_6666_6666_6666
 -- Table 2: each tap at 0.6
 abbrev pub tapGain : Float
 tapGain = ofBits binary64 0x3fe3_3333_3333_3333
-
--- ---- a line
-
--- what a line inside a loop takes: the Rust's `flush(v) + kick`, kick being 0
-unfoldable pub storedOf : Float → Float
-storedOf v = flushed v ⊕ nought
-
--- a lattice of coefficient g whose line gives d: w = x + g·d is pushed, and d − g·w comes out
-unfoldable pub latticeFrom : LineRate → Float → Float → List Float → Float → Step (List Float) Float
-latticeFrom r g d line x =
-    let w = storedOf (x ⊕ g ⊗ d) in
-    record { next = pushOf (r .line .ring) line w; out = d ⊖ g ⊗ w }
-
--- d is read before the push
-unfoldable pub latticeStep : LineRate → Float → List Float → Float → Step (List Float) Float
-latticeStep r g line x = latticeFrom r g (atOf line (r .delay - 1)) line x
-
--- the same `stretch` frames longer, between frames
-unfoldable pub stretchedStep : LineRate → Float → Float → Float → List Float → Float → Step (List Float) Float
-stretchedStep r reach stretch g line x = latticeFrom r g (tapOf (atOf line) reach (whole (r .delay) ⊕ stretch ⊖ one)) line x
-
--- a plain delay: pushed, then read at its length
-unfoldable pub delayStep : LineRate → List Float → Float → Step (List Float) Float
-delayStep r line x =
-    let l = pushOf (r .line .ring) line x in
-    record { next = l; out = atOf l (r .delay) }
 
 -- ---- the predelay and the four input lattices
 
@@ -169,7 +143,7 @@ zeros l = replicate (l .line .ring) nought
 
 unfoldable pub freshHalf : Float → HalfRate → HalfMachine
 freshHalf pole r =
-    record { diffuser1 = zeros (r .diffuser1); delay1 = zeros (r .delay1); damping = record { pole = pole; y = nought }; diffuser2 = zeros (r .diffuser2); delay2 = zeros (r .delay2) }
+    record { diffuser1 = zeros (r .diffuser1); delay1 = zeros (r .delay1); damping = onePoleAt pole; diffuser2 = zeros (r .diffuser2); delay2 = zeros (r .delay2) }
 
 unfoldable pub freshPlate : PlateRate → PlateMachine
 freshPlate r =

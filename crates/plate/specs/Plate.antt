@@ -1,46 +1,25 @@
 -- The plate on its part of the sample store: the same steps, each line being a ring of the part. Definitions only.
 -- The part is the input's places, then the left half's, then the right half's.
-use Prim.Native.Nat.{ℕ, _+_, _-_, _<_, _≤_}
+use Prim.Native.Nat.{ℕ, _+_, _-_}
 use mathlib.Core.Bool.{Bool, _&&_}
 use mathlib.Core.List.{List, _++_}
-use lib.ListN.{length, take, drop}
+use lib.ListN.{take, drop}
 use lib.Ieee.{Float}
-use Rattle.casts.specs.Arithmetic.{_⊕_, _⊖_, _⊗_, whole, nought, one}
-use Rattle.stage.specs.Stage.{Step, Stage}
+use Rattle.casts.specs.Arithmetic.{_⊕_, _⊖_, _⊗_}
+use Rattle.stage.specs.Stage.{Stage}
 use Rattle.stream.specs.declared.Frame.{Frame}
 use Rattle.onepole.specs.declared.OnePole.{OnePole}
-use Rattle.onepole.specs.OnePole.{onePoleStep, onePoleAtRest}
+use Rattle.onepole.specs.OnePole.{onePoleAt, onePoleStep, onePoleAtRest}
 use Rattle.biquad.specs.Section.{sectionAt, sectionStep, sectionAtRest}
-use Rattle.delay.specs.Delay.{linePush, lineAt, lineTap, allZero}
-use Rattle.rate.specs.declared.LineRate.{LineRate}
+use Rattle.delay.specs.Delay.{linePush, lineAt, allZero}
+use Rattle.allpass.specs.Allpass.{storedOf, latticeOn, stretchedOn, delayOn}
 use Rattle.rate.specs.declared.InputRate.{InputRate}
 use Rattle.rate.specs.declared.HalfRate.{HalfRate}
 use Rattle.rate.specs.declared.Taps.{Taps}
 use Rattle.rate.specs.declared.PlateRate.{PlateRate}
 use Rattle.plate.specs.declared.Tank.{Tank}
 use Rattle.plate.specs.declared.Plate.{Plate}
-use Rattle.plate.specs.Machine.{inputDiffusion1, inputDiffusion2, decayDiffusion1, tapGain, storedOf, stretchOf}
-
-abbrev pub gave : {S Y : Type 0} → S → Y → Step S Y
-gave s y = record { next = s; out = y }
-
--- ---- a line
-
-unfoldable pub latticeFromOn : LineRate → Float → Float → Stage (List Float) Float Float
-latticeFromOn r g d n part x =
-    let w = storedOf (x ⊕ g ⊗ d) in
-    record { next = linePush (r .line) part n w; out = d ⊖ g ⊗ w }
-
-unfoldable pub latticeOn : LineRate → Float → Stage (List Float) Float Float
-latticeOn r g n part x = latticeFromOn r g (lineAt (r .line) part n (r .delay - 1)) n part x
-
-unfoldable pub stretchedOn : LineRate → Float → Float → Float → Stage (List Float) Float Float
-stretchedOn r reach stretch g n part x = latticeFromOn r g (lineTap (r .line) part n reach (whole (r .delay) ⊕ stretch ⊖ one)) n part x
-
-unfoldable pub delayOn : LineRate → Stage (List Float) Float Float
-delayOn r n part x =
-    let p = linePush (r .line) part n x in
-    record { next = p; out = lineAt (r .line) p (n + 1) (r .delay) }
+use Rattle.plate.specs.Machine.{inputDiffusion1, inputDiffusion2, decayDiffusion1, tapGain, stretchOf}
 
 -- ---- the input's part
 
@@ -135,7 +114,7 @@ plateStepOn r n s x =
 
 unfoldable pub freshOn : PlateRate → Plate
 freshOn r =
-    record { tank = record { left = record { pole = r .damping; y = nought }; right = record { pole = r .damping; y = nought } }; left = sectionAt (r .highpass); right = sectionAt (r .highpass) }
+    record { tank = record { left = onePoleAt (r .damping); right = onePoleAt (r .damping) }; left = sectionAt (r .highpass); right = sectionAt (r .highpass) }
 
 unfoldable pub quietOf : Plate → Bool
 quietOf p = onePoleAtRest (p .tank .left) && onePoleAtRest (p .tank .right) && sectionAtRest (p .left) && sectionAtRest (p .right)
@@ -143,14 +122,6 @@ quietOf p = onePoleAtRest (p .tank .left) && onePoleAtRest (p .tank .right) && s
 unfoldable pub atRestOn : PlateIn → Bool
 atRestOn s = allZero (s .part) && quietOf (s .plate)
 
--- ---- what the code asks
-
--- a line that lies within its part
-pub record Lent (l : LineRate) (part : List Float) : Type 0 where
-  pub ring : 0 < l .line .ring
-  pub room : l .line .at + l .line .ring ≤ length part
-  pub some : 0 < l .delay
-  pub within : l .delay < 65536
-
+-- how many places the part has
 abbrev pub partOf : PlateRate → ℕ
 partOf r = r .input .places + (r .left .places + r .right .places)

@@ -1,12 +1,10 @@
 // The plate (plate.rs): Dattorro's plate-class reverberator, on its own part of the sample store. A line's ring is a
 // place of that part; the dampings and the high-passes are kept by value. It may use casts, stage, elementary, stream,
-// onepole, biquad, delay and rate.
+// onepole, biquad, delay, rate and allpass.
 use biquad::Section;
-use delay::DelayLine;
 use onepole::OnePole;
 use rate::HalfRate;
 use rate::InputRate;
-use rate::LineRate;
 use rate::PlateRate;
 use rate::Taps;
 use stream::Frame;
@@ -16,10 +14,10 @@ ghost use Prim.Native.Nat.{_+_, _<_, _≤_};
 ghost use lib.ListN.{length};
 ghost use Rattle.stream.specs.declared.Frame.{Frame};
 ghost use Rattle.stage.specs.Stage.{ran, outs};
-ghost use Rattle.delay.specs.Delay.{Reach};
+ghost use Rattle.allpass.specs.Allpass.{gave};
 ghost use Rattle.rate.specs.Plate.{InputUsable, HalfUsable, TapsUsable, PlateUsable};
-ghost use Rattle.plate.specs.Machine.{storedOf, turnOf, stretchOf};
-ghost use Rattle.plate.specs.Plate.{gave, latticeFromOn, latticeOn, stretchedOn, delayOn, inputOn, halfIn, halfOn, leavingOn, tapsOn, tankIn, fedOn, halvesOn, returnedOn, tankOn, plateOn, plateStepOn, freshOn, quietOf, atRestOn, Lent, partOf};
+ghost use Rattle.plate.specs.Machine.{turnOf, stretchOf};
+ghost use Rattle.plate.specs.Plate.{inputOn, halfIn, halfOn, leavingOn, tapsOn, tankIn, fedOn, halvesOn, returnedOn, tankOn, plateOn, plateStepOn, freshOn, quietOf, atRestOn, partOf};
 
 const INPUT_DIFFUSION_1: f64 = 0.75;
 
@@ -57,72 +55,17 @@ pub struct PlateGave {
     pub frame: Frame,
 }
 
-// What a line inside a loop takes. Adding 0 turns -0 into +0, as the Rust's kick of 0 does.
-fn stored(v: f64) -> f64
-    ensures { λ r. ⌜ r ≡ storedOf v ⌝ }
-{
-    stream::flush(v) + 0.0
-}
-
-// A lattice of coefficient g whose line gives d.
-fn lattice_from(rate: LineRate, part: &mut [f64], g: f64, d: f64, x: f64, n: u64) -> f64
-    requires { ⌜ Lent rate (now part) ⌝ }
-    ensures { λ r. ⌜ gave (now (part .exit)) r ≡ latticeFromOn rate g d n (now (part .entry)) x ⌝ }
-{
-    let w = stored(x + g * d);
-    rate.line.push(part, n, w);
-    d - g * w
-}
-
-// A lattice at its own length.
-fn lattice(rate: LineRate, part: &mut [f64], g: f64, x: f64, n: u64) -> f64
-    requires { ⌜ Lent rate (now part) ⌝ }
-    ensures { λ r. ⌜ gave (now (part .exit)) r ≡ latticeOn rate g n (now (part .entry)) x ⌝ }
-{
-    let d = rate.line.at(part, n, rate.delay - 1);
-    lattice_from(rate, part, g, d, x, n)
-}
-
-// A lattice stretch frames longer, between frames.
-fn stretched(
-    rate: LineRate,
-    part: &mut [f64],
-    reach: f64,
-    stretch: f64,
-    g: f64,
-    x: f64,
-    n: u64,
-) -> f64
-    requires { ⌜ Lent rate (now part) ⌝ }
-    requires { ⌜ Reach reach ⌝ }
-    ensures { λ r. ⌜ gave (now (part .exit)) r ≡ stretchedOn rate reach stretch g n (now (part .entry)) x ⌝ }
-{
-    let back = std::num::nearest_u64_to_f64(rate.delay) + stretch - 1.0;
-    let d = rate.line.tap(part, n, reach, back);
-    lattice_from(rate, part, g, d, x, n)
-}
-
-// A plain delay: pushed, then read at its length.
-fn delayed(rate: LineRate, part: &mut [f64], x: f64, n: u64) -> f64
-    requires { ⌜ Lent rate (now part) ⌝ }
-    requires { ⌜ n < 4294967296 ⌝ }
-    ensures { λ r. ⌜ gave (now (part .exit)) r ≡ delayOn rate n (now (part .entry)) x ⌝ }
-{
-    rate.line.push(part, n, x);
-    rate.line.at(part, n + 1, rate.delay)
-}
-
 // The predelay and the four input lattices.
 fn input(rate: InputRate, part: &mut [f64], x: f64, n: u64) -> f64
     requires { ⌜ InputUsable rate ⌝ }
     requires { ⌜ (length (now part) ≡ rate .places) × (n < 4294967296) ⌝ }
     ensures { λ r. ⌜ gave (now (part .exit)) r ≡ inputOn rate n (now (part .entry)) x ⌝ }
 {
-    let p = delayed(rate.predelay, part, x, n);
-    let a = lattice(rate.diffuser1, part, INPUT_DIFFUSION_1, p, n);
-    let b = lattice(rate.diffuser2, part, INPUT_DIFFUSION_1, a, n);
-    let c = lattice(rate.diffuser3, part, INPUT_DIFFUSION_2, b, n);
-    lattice(rate.diffuser4, part, INPUT_DIFFUSION_2, c, n)
+    let p = allpass::delayed(rate.predelay, part, x, n);
+    let a = allpass::lattice(rate.diffuser1, part, INPUT_DIFFUSION_1, p, n);
+    let b = allpass::lattice(rate.diffuser2, part, INPUT_DIFFUSION_1, a, n);
+    let c = allpass::lattice(rate.diffuser3, part, INPUT_DIFFUSION_2, b, n);
+    allpass::lattice(rate.diffuser4, part, INPUT_DIFFUSION_2, c, n)
 }
 
 // One half of the tank.
@@ -140,7 +83,7 @@ fn half(
     requires { ⌜ (length (now part) ≡ rate .places) × (n < 4294967296) ⌝ }
     ensures { λ r. ⌜ halfIn r (now (part .exit)) ≡ halfOn rate decay diffusion n (halfIn damping (now (part .entry))) fed stretch ⌝ }
 {
-    let a = stretched(
+    let a = allpass::stretched(
         rate.diffuser1,
         part,
         rate.reach,
@@ -149,10 +92,10 @@ fn half(
         fed,
         n,
     );
-    let b = delayed(rate.delay1, part, stored(a), n);
+    let b = allpass::delayed(rate.delay1, part, allpass::stored(a), n);
     let damping = damping.lowpass(b);
-    let d = lattice(rate.diffuser2, part, diffusion, damping.y * decay, n);
-    let e = stored(d);
+    let d = allpass::lattice(rate.diffuser2, part, diffusion, damping.y * decay, n);
+    let e = allpass::stored(d);
     rate.delay2.line.push(part, n, e);
     damping
 }
@@ -346,10 +289,7 @@ impl Plate {
     pub fn new(rate: PlateRate) -> Plate
         ensures { λ r. ⌜ r ≡ freshOn rate ⌝ }
     {
-        let damping = OnePole {
-            pole: rate.damping,
-            y: 0.0,
-        };
+        let damping = OnePole::new(rate.damping);
         let section = Section::new(rate.highpass);
         Plate {
             tank: Tank {

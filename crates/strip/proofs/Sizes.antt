@@ -12,7 +12,8 @@ use Rattle.rate.specs.declared.InputRate.{InputRate}
 use Rattle.rate.specs.declared.HalfRate.{HalfRate}
 use Rattle.rate.specs.declared.PlateRate.{PlateRate}
 use Rattle.rate.specs.declared.CeilingRate.{CeilingRate}
-use Rattle.plate.specs.Plate.{latticeFromOn, latticeOn, stretchedOn, delayOn, inputOn, HalfIn, halfIn, halfOn, TankIn, tankIn, fedOn, halvesOn, tankOn, PlateIn, plateStepOn}
+use Rattle.allpass.specs.Allpass.{latticeFromOn, latticeOn, stretchedOn, delayOn}
+use Rattle.plate.specs.Plate.{inputOn, HalfIn, halfIn, halfOn, TankIn, tankIn, fedOn, halvesOn, tankOn, PlateIn, plateStepOn}
 use Rattle.plate.specs.Machine.{stretchOf}
 use Rattle.master.specs.Kept.{CeilingIn, ceilingStepOn}
 

@@ -1,7 +1,8 @@
 use borrow.Author.Needs.{needs}
 use Prim.Native.Nat.{_-_}
 use lib.ListN.{length}
-use Rattle.plate.specs.Plate.{plateOn, gave}
+use Rattle.allpass.specs.Allpass.{gave}
+use Rattle.plate.specs.Plate.{plateOn}
 use Rattle.plate.proofs.Turns.{Plating, plate-start, plate-turn, plate-done}
 use Rattle.plate.proofs.block.Statement.{statement}
 use Rattle.plate.proofs.block.Tie as tie

@@ -1,4 +1,4 @@
-use Rattle.plate.specs.Plate.{gave}
+use Rattle.allpass.specs.Allpass.{gave}
 use Rattle.plate.proofs.Calls.{half-is}
 use borrow.Author.Needs.{needs}
 use Rattle.plate.proofs.half.Statement.{statement}

@@ -1,5 +1,6 @@
 use native.Mathlib.Omega.{arith}
-use Rattle.plate.specs.Plate.{gave, tankIn}
+use Rattle.allpass.specs.Allpass.{gave}
+use Rattle.plate.specs.Plate.{tankIn}
 use Rattle.plate.proofs.Calls.{step-is}
 use borrow.Author.Needs.{needs}
 use Rattle.plate.proofs.step.Statement.{statement}

@@ -1,0 +1,2 @@
+-- The laws of the plate's lines.
+pub mod Lines

@@ -1,0 +1,2 @@
+-- The plate's lines: definitions that the contracts cite.
+pub mod Allpass

@@ -1,0 +1,24 @@
+use Rattle.strip.specs.Calls.{latchedStrip}
+use borrow.Author.Needs.{needs}
+use Rattle.part.proofs.latched.Statement.{statement}
+use Rattle.part.proofs.latched.Tie as tie
+
+widen-requires : tie.Need-widen-requires
+widen-requires c κs = search needs
+
+toward-requires : tie.Need-toward-requires
+toward-requires c κs = search needs
+
+widen-requires-2 : tie.Need-widen-requires-2
+widen-requires-2 c κs = search needs
+
+toward-requires-2 : tie.Need-toward-requires-2
+toward-requires-2 c κs = search needs
+
+returns : tie.Need-returns
+unfolding latchedStrip
+returns c = rw (c .toward2 .ensures, c .before .widen2 .ensures, c .before .before .toward .ensures, c .before .before .before .widen .ensures)
+
+pub latched-spec : {M : Type 1} → statement M
+latched-spec =
+    tie.close (tie.spec widen-requires toward-requires widen-requires-2 toward-requires-2 returns)

@@ -1,0 +1,293 @@
+// A run: blocks of samples through the lane, the plate and the ceiling to frames, each stage on its own parts of the stores.
+ghost use mathlib.Core.Path.{_≡_};
+ghost use mathlib.Core.List.{map};
+ghost use Prim.Native.Nat.{_+_, _*_, _<_, _≤_};
+ghost use lib.ListN.{length, take, drop};
+ghost use lib.Ieee.{nan};
+ghost use Rattle.casts.specs.Arithmetic.{_⊕_, _⊗_};
+ghost use Rattle.stage.specs.Stage.{ran, outs};
+ghost use Rattle.stream.specs.declared.Frame.{Frame};
+ghost use Rattle.rate.specs.Rate.{RateUsable};
+ghost use Rattle.rate.specs.Plate.{PlateUsable};
+ghost use Rattle.automation.specs.Automation.{tuningAt};
+ghost use Rattle.automation.specs.Pieces.{span, pieceAt};
+ghost use Rattle.plate.specs.Plate.{plateOn, partOf};
+ghost use Rattle.tape.specs.Kept.{tuned};
+ghost use Rattle.master.specs.Kept.{framesOut, countsOut};
+ghost use Rattle.strip.specs.Calls.{state, listsIn, mixedStepOn, stepOn};
+ghost use Rattle.part.specs.Run.{added, Runs, Piecewise, Outputs, tuningOf, pieceOf, ranAll, allRan};
+use automation::Piece;
+use automation::Tuning;
+use plate::Plate;
+use rate::PlateRate;
+use rate::Rate;
+use rate::TapeRate;
+use refusals::places;
+use strip::Strip;
+use tape::Tape;
+
+// The samples of a block at most: a piece has no more.
+const BLOCK: usize = 32;
+
+// ---- the plate, with what it is mixed with
+
+// The lane's samples at the send level.
+fn send(dry: &[f64], sent: &mut [f64], level: f64)
+    requires { ⌜ length (now sent) ≡ length (now dry) ⌝ }
+    ensures { λ _. ⌜ now (sent .exit) ≡ map (λ y. y ⊗ level) (now (dry .entry)) ⌝ }
+{
+    let mut i: usize = 0;
+    while i < dry.len() {
+        sent[i] = dry[i] * level;
+        i += 1;
+    }
+}
+
+// The lane's samples in front of a side of the plate's.
+fn add(dry: &[f64], side: &mut [f64])
+    requires { ⌜ length (now side) ≡ length (now dry) ⌝ }
+    ensures { λ _. ⌜ now (side .exit) ≡ added (now (dry .entry)) (now (side .entry)) ⌝ }
+{
+    let mut i: usize = 0;
+    while i < dry.len() {
+        side[i] = dry[i] + side[i];
+        i += 1;
+    }
+}
+
+fn mix(
+    rate: PlateRate,
+    level: f64,
+    plate: Plate,
+    part: &mut [f64],
+    dry: &[f64],
+    left: &mut [f64],
+    right: &mut [f64],
+    n: u64,
+) -> Plate
+    requires { ⌜ PlateUsable rate ⌝ }
+    requires { ⌜ (length (now part) ≡ partOf rate) × (n + length (now dry) ≤ 4294967296) ⌝ }
+    requires { ⌜ (length (now left) ≡ length (now dry)) × (length (now right) ≡ length (now dry)) ⌝ }
+    ensures { λ r. ⌜ plateOn r (now (part .exit)) ≡ ran (mixedStepOn rate level) n (plateOn plate (now (part .entry))) (now (dry .entry)) ⌝ }
+    ensures { λ _. ⌜ now (left .exit) ≡ map (λ (f : Frame). f .left) (outs (mixedStepOn rate level) n (plateOn plate (now (part .entry))) (now (dry .entry))) ⌝ }
+    ensures { λ _. ⌜ now (right .exit) ≡ map (λ (f : Frame). f .right) (outs (mixedStepOn rate level) n (plateOn plate (now (part .entry))) (now (dry .entry))) ⌝ }
+{
+    send(dry, left, level);
+    let next = plate::block(rate, plate, part, left, right, n);
+    add(dry, left);
+    add(dry, right);
+    next
+}
+
+// ---- a block of at most as many samples as have one tuning
+
+fn tune(rate: TapeRate, corner: f32, tape: Tape) -> Tape
+    ensures { λ r. ⌜ r ≡ tuned rate corner tape ⌝ }
+{
+    let tone = tape.tone.retuned(corner, rate.hz);
+    let equalizer = tape.equalizer;
+    let duck = tape.duck;
+    Tape {
+        tone,
+        equalizer,
+        duck,
+    }
+}
+
+// Stage by stage, each on its own parts of the stores. The samples lie in dry, and left and right are room for the two sides.
+fn stages(
+    rate: Rate,
+    strip: Strip,
+    tuning: Tuning,
+    drums: bool,
+    dry: &mut [f64],
+    left: &mut [f64],
+    right: &mut [f64],
+    frames: &mut [f32],
+    gains: &mut [u64],
+    store: &mut [f64],
+    counts: &mut [u64],
+) -> Strip
+    requires { ⌜ RateUsable rate ⌝ }
+    requires { ⌜ Runs rate (state strip (now store) (now counts)) ⌝ }
+    requires { ⌜ tuning ≡ tuningOf rate (state strip (now store) (now counts)) ⌝ }
+    requires { ⌜ Piecewise rate (state strip (now store) (now counts)) (length (now dry)) ⌝ }
+    requires { ⌜ Outputs (length (now dry)) (length (now left)) (length (now right)) (length (now frames)) (length (now gains)) ⌝ }
+    ensures { λ r. ⌜ ranAll r (now (store .exit)) (now (counts .exit)) (now (frames .exit)) (now (gains .exit)) ≡ allRan rate drums (state strip (now (store .entry)) (now (counts .entry))) (now (dry .entry)) ⌝ }
+{
+    let n = strip.position;
+    let k = dry.len() as u64;
+    let setup = strip.setup;
+    let rain = strip.rain;
+    let plate_at = places::plate_at(rate);
+    let ceiling_at = places::ceiling_at(rate);
+    let values_at = places::values_at(rate);
+    let positions_at = places::positions_at(rate);
+    let tuned = tune(rate.tape, tuning.corner, strip.tape);
+    let tape = tape::tape_block(
+        rate.tape,
+        setup.tape,
+        rain,
+        tuning.drive,
+        tuned,
+        &mut store[0..plate_at],
+        &mut counts[0..places::DUCK],
+        dry,
+        n,
+        drums,
+    );
+    let plate = mix(
+        rate.plate,
+        setup.send,
+        strip.plate,
+        &mut store[plate_at..ceiling_at],
+        dry,
+        left,
+        right,
+        n,
+    );
+    let ceiling = master::block(
+        rate.ceiling,
+        strip.ceiling,
+        &mut store[ceiling_at..values_at],
+        &mut counts[places::DUCK..positions_at],
+        n,
+        left,
+        right,
+        frames,
+        gains,
+    );
+    let daylight = strip.daylight;
+    Strip {
+        position: n + k,
+        setup,
+        points: strip.points,
+        daylight,
+        rain,
+        tape,
+        plate,
+        ceiling,
+    }
+}
+
+// From samples to frames, by way of three arrays.
+fn block(
+    rate: Rate,
+    strip: Strip,
+    tuning: Tuning,
+    samples: &[f64],
+    drums: bool,
+    frames: &mut [f32],
+    gains: &mut [u64],
+    store: &mut [f64],
+    counts: &mut [u64],
+) -> Strip
+    requires { ⌜ RateUsable rate ⌝ }
+    requires { ⌜ Runs rate (state strip (now store) (now counts)) ⌝ }
+    requires { ⌜ tuning ≡ tuningOf rate (state strip (now store) (now counts)) ⌝ }
+    requires { ⌜ Piecewise rate (state strip (now store) (now counts)) (length (now samples)) ⌝ }
+    requires { ⌜ (length (now samples) ≤ 32) × (length (now frames) ≡ 2 * length (now samples)) × (length (now gains) ≡ length (now samples)) ⌝ }
+    ensures { λ r. ⌜ ranAll r (now (store .exit)) (now (counts .exit)) (now (frames .exit)) (now (gains .exit)) ≡ allRan rate drums (state strip (now (store .entry)) (now (counts .entry))) (now (samples .entry)) ⌝ }
+{
+    let k = samples.len();
+    let mut dry = [0.0f64; BLOCK];
+    let mut left = [0.0f64; BLOCK];
+    let mut right = [0.0f64; BLOCK];
+    copy(samples, &mut dry[0..k]);
+    stages(
+        rate,
+        strip,
+        tuning,
+        drums,
+        &mut dry[0..k],
+        &mut left[0..k],
+        &mut right[0..k],
+        frames,
+        gains,
+        store,
+        counts,
+    )
+}
+
+fn copy(samples: &[f64], block: &mut [f64])
+    requires { ⌜ length (now block) ≡ length (now samples) ⌝ }
+    ensures { λ _. ⌜ now (block .exit) ≡ now (samples .entry) ⌝ }
+{
+    let mut i: usize = 0;
+    while i < samples.len() {
+        block[i] = samples[i];
+        i += 1;
+    }
+}
+
+// ---- a run's samples, piece by piece
+
+// The tuning of the next sample, and how many samples it lasts.
+fn piece(rate: Rate, strip: Strip, store: &[f64], counts: &[u64]) -> Piece
+    requires { ⌜ RateUsable rate ⌝ }
+    requires { ⌜ Runs rate (state strip (now store) (now counts)) ⌝ }
+    ensures { λ r. ⌜ r ≡ pieceOf rate (state strip (now (store .entry)) (now (counts .entry))) ⌝ }
+{
+    let values_at = places::values_at(rate);
+    let positions_at = places::positions_at(rate);
+    let points = strip.points;
+    let values_end = values_at + points;
+    let positions_end = positions_at + points;
+    let setup = strip.setup;
+    let lane = setup.tape;
+    let tone = lane.tone;
+    let daylight = strip.daylight;
+    automation::piece_at(
+        tone,
+        daylight,
+        &counts[positions_at..positions_end],
+        &store[values_at..values_end],
+        strip.position,
+    )
+}
+
+fn least(a: u64, b: usize) -> usize
+    ensures { λ r. ⌜ (r ≤ a) × (r ≤ b) × (0 < a → 0 < b → 0 < r) ⌝ }
+{
+    if a < b as u64 { a as usize } else { b }
+}
+
+pub fn go(
+    rate: Rate,
+    strip: Strip,
+    samples: &[f64],
+    drums: bool,
+    frames: &mut [f32],
+    gains: &mut [u64],
+    store: &mut [f64],
+    counts: &mut [u64],
+) -> Strip
+    requires { ⌜ RateUsable rate ⌝ }
+    requires { ⌜ Runs rate (state strip (now store) (now counts)) ⌝ }
+    requires { ⌜ strip .position + length (now samples) ≤ 4294967296 ⌝ }
+    requires { ⌜ (length (now frames) ≡ 2 * length (now samples)) × (length (now gains) ≡ length (now samples)) ⌝ }
+    ensures { λ r. ⌜ ranAll r (now (store .exit)) (now (counts .exit)) (now (frames .exit)) (now (gains .exit)) ≡ allRan rate drums (state strip (now (store .entry)) (now (counts .entry))) (now (samples .entry)) ⌝ }
+{
+    let mut strip = strip;
+    let mut i: usize = 0;
+    while i < samples.len() {
+        let p = piece(rate, strip, store, counts);
+        let e = i + least(p.len, samples.len() - i);
+        let from = 2 * i;
+        let to = 2 * e;
+        let tuning = p.tuning;
+        strip = block(
+            rate,
+            strip,
+            tuning,
+            &samples[i..e],
+            drums,
+            &mut frames[from..to],
+            &mut gains[i..e],
+            store,
+            counts,
+        );
+        i = e;
+    }
+    strip
+}

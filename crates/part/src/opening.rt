@@ -1,0 +1,108 @@
+// What open lays into the two stores, and the strip that it gives.
+ghost use mathlib.Core.Path.{_≡_};
+ghost use Prim.Native.Nat.{_≤_};
+ghost use lib.ListN.{length, replicate};
+ghost use Rattle.casts.specs.Arithmetic.{nought};
+ghost use Rattle.rate.specs.Rate.{RateUsable};
+ghost use Rattle.refusals.specs.Pieces.{Sized};
+ghost use Rattle.part.specs.Pieces.{over, silenced, listed, ceiled, ceiledFresh, freshStrip};
+use duck::Duck;
+use master::Ceiling;
+use plate::Plate;
+use ramp::Ramp;
+use ramp::Shape;
+use rate::Rate;
+use strip::Setup;
+use strip::Strip;
+
+fn clear(part: &mut [f64])
+    ensures { λ _. ⌜ now (part .exit) ≡ replicate (length (now (part .entry))) nought ⌝ }
+{
+    let mut k: usize = 0;
+    while k < part.len() {
+        part[k] = 0.0;
+        k += 1;
+    }
+}
+
+fn lay_values(values: &[f64], part: &mut [f64])
+    requires { ⌜ length (now values) ≤ length (now part) ⌝ }
+    ensures { λ _. ⌜ now (part .exit) ≡ over (now (values .entry)) (now (part .entry)) ⌝ }
+{
+    let mut i: usize = 0;
+    while i < values.len() {
+        part[i] = values[i];
+        i += 1;
+    }
+}
+
+fn lay_positions(positions: &[u64], part: &mut [u64])
+    requires { ⌜ length (now positions) ≤ length (now part) ⌝ }
+    ensures { λ _. ⌜ now (part .exit) ≡ over (now (positions .entry)) (now (part .entry)) ⌝ }
+{
+    let mut i: usize = 0;
+    while i < positions.len() {
+        part[i] = positions[i];
+        i += 1;
+    }
+}
+
+// The warp's and the plate's lines silent, and the sweep's values at their place.
+pub fn lay_samples(rate: Rate, values: &[f64], store: &mut [f64])
+    requires { ⌜ RateUsable rate ⌝ }
+    requires { ⌜ (rate .samples ≤ length (now store)) × (length (now values) ≤ 256) ⌝ }
+    ensures { λ _. ⌜ now (store .exit) ≡ silenced rate (now (values .entry)) (now (store .entry)) ⌝ }
+{
+    let a = refusals::places::ceiling_at(rate);
+    let v = refusals::places::values_at(rate);
+    clear(&mut store[0..a]);
+    let e = store.len();
+    lay_values(values, &mut store[v..e]);
+}
+
+// The kicks and the sweep's positions at their places.
+pub fn lay_counts(rate: Rate, positions: &[u64], kicks: &[u64], counts: &mut [u64])
+    requires { ⌜ RateUsable rate ⌝ }
+    requires { ⌜ (rate .counts ≤ length (now counts)) × (length (now positions) ≤ 256) × (length (now kicks) ≤ 1024) ⌝ }
+    ensures { λ _. ⌜ now (counts .exit) ≡ listed rate (now (positions .entry)) (now (kicks .entry)) (now (counts .entry)) ⌝ }
+{
+    let p = refusals::places::positions_at(rate);
+    Duck::new(kicks, &mut counts[0..refusals::places::DUCK]);
+    let e = counts.len();
+    lay_positions(positions, &mut counts[p..e]);
+}
+
+// A fresh ceiling on its parts of the stores.
+pub fn fresh_ceiling(rate: Rate, store: &mut [f64], counts: &mut [u64]) -> Ceiling
+    requires { ⌜ RateUsable rate ⌝ }
+    requires { ⌜ Sized rate (now store) (now counts) ⌝ }
+    ensures { λ r. ⌜ ceiled r (now (store .exit)) (now (counts .exit)) ≡ ceiledFresh rate (now (store .entry)) (now (counts .entry)) ⌝ }
+{
+    let a = refusals::places::ceiling_at(rate);
+    let v = refusals::places::values_at(rate);
+    let p = refusals::places::positions_at(rate);
+    master::fresh(
+        rate.ceiling,
+        &mut store[a..v],
+        &mut counts[refusals::places::DUCK..p],
+    )
+}
+
+pub fn fresh_strip(rate: Rate, setup: Setup, points: usize, kicks: usize, ceiling: Ceiling) -> Strip
+    ensures { λ r. ⌜ r ≡ freshStrip rate setup points kicks ceiling ⌝ }
+{
+    let daylight = Ramp::held(casts::widen(setup.daylight), Shape::Linear);
+    let rain = Ramp::held(casts::widen(setup.rain), Shape::Linear);
+    let tape = tape::fresh(rate.tape, kicks);
+    let plate = Plate::new(rate.plate);
+    Strip {
+        position: 0,
+        setup,
+        points,
+        daylight,
+        rain,
+        tape,
+        plate,
+        ceiling,
+    }
+}
