@@ -18,27 +18,32 @@ unsafe extern "C" {
     pub safe fn goqhari_test_sin_f32(x: f32) -> f32;
     pub safe fn goqhari_test_pow_f32(b: f32, p: f32) -> f32;
     pub safe fn goqhari_test_section(section: &mut [f64; 9], x: f64) -> f64;
-    pub safe fn goqhari_test_lowpass(hz: f32, coefficients: &mut [f64; 10]);
+    pub safe fn goqhari_test_lowpass(hz: f32, first: &mut [f64; 5], second: &mut [f64; 5]);
+    pub safe fn goqhari_test_retuned(from: f32, hz: f32, first: &mut [f64; 5], second: &mut [f64; 5]);
+    pub safe fn goqhari_test_fixed(which: u64, five: &mut [f64; 5]);
     pub safe fn goqhari_test_onepole(onepole: &mut [f64; 2], x: f64) -> f64;
-    pub safe fn goqhari_test_pole(hz: f32) -> f64;
+    pub safe fn goqhari_test_tilt(onepole: &mut [f64; 2], rain: f64, x: f64) -> f64;
+    pub safe fn goqhari_test_pole(damping: bool) -> f64;
     fn goqhari_test_push(ring: *mut f64, len: usize, written: u64, x: f64);
     fn goqhari_test_at(ring: *const f64, len: usize, written: u64, delay: u64) -> f64;
     fn goqhari_test_tap(ring: *const f64, len: usize, written: u64, max_delay: f64, delay: f64) -> f64;
     pub safe fn goqhari_test_ramp_at(ends: &[f64; 2], span: &[u64; 2], db: bool, n: u64) -> f64;
+    pub safe fn goqhari_test_daylight(ends: &[f64; 2], span: &[u64; 2], n: u64) -> f64;
     pub safe fn goqhari_test_ramp_toward(ends: &mut [f64; 2], span: &mut [u64; 2], db: bool, n: u64, to: f64, len: u64);
-    fn goqhari_test_sweep(points: *const u64, points_len: usize, values: *const f64, values_len: usize, n: u64) -> f64;
+    fn goqhari_test_sweep(
+        points: *const u64,
+        points_len: usize,
+        values: *const f64,
+        values_len: usize,
+        own: f32,
+        n: u64,
+    ) -> f32;
     pub safe fn goqhari_test_swept(own: f32, value: f64) -> f32;
     pub safe fn goqhari_test_grade_corner(night: f32, day: f32, t: f64) -> f32;
     pub safe fn goqhari_test_grade_drive(night: f32, day: f32, t: f64) -> f64;
-    fn goqhari_test_duck(
-        kicks: *const u64,
-        kicks_len: usize,
-        marks: *mut u64,
-        marks_len: usize,
-        cursors: &mut [u64; 2],
-        n: u64,
-        drums: bool,
-    ) -> f64;
+    pub safe fn goqhari_test_sidechain(since: u64) -> f64;
+    fn goqhari_test_duck_new(kicks: *const u64, kicks_len: usize, counts: *mut u64, counts_len: usize) -> usize;
+    fn goqhari_test_duck(counts: *mut u64, counts_len: usize, cursors: &mut [usize; 3], n: u64, drums: bool) -> f64;
     fn goqhari_test_tape(
         f32s: &[f32; 8],
         f64s: &[f64; 4],
@@ -49,30 +54,28 @@ unsafe extern "C" {
         values_len: usize,
         kicks: *const u64,
         kicks_len: usize,
-        store: *mut f64,
-        store_len: usize,
+        ring: *mut f64,
+        ring_len: usize,
         counts: *mut u64,
         counts_len: usize,
         samples: *mut f64,
         samples_len: usize,
-        cut: usize,
-        drums: u64,
-        controls: &[f32; 2],
-        ramps: &[u64; 2],
+        calls: *const u64,
+        calls_len: usize,
     ) -> bool;
     fn goqhari_test_plate(
-        store: *mut f64,
-        store_len: usize,
-        x: *const f64,
-        x_len: usize,
+        part: *mut f64,
+        part_len: usize,
         left: *mut f64,
         left_len: usize,
         right: *mut f64,
         right_len: usize,
+        calls: *const u64,
+        calls_len: usize,
     ) -> bool;
     fn goqhari_test_ceiling(
-        store: *mut f64,
-        store_len: usize,
+        samples: *mut f64,
+        samples_len: usize,
         counts: *mut u64,
         counts_len: usize,
         left: *const f64,
@@ -83,6 +86,8 @@ unsafe extern "C" {
         frames_len: usize,
         gains: *mut u64,
         gains_len: usize,
+        calls: *const u64,
+        calls_len: usize,
     );
     fn goqhari_test_calls(
         f32s: &[f32; 8],
@@ -132,20 +137,54 @@ pub fn tap(ring: &[f64], written: u64, max_delay: f64, delay: f64) -> f64 {
     unsafe { goqhari_test_tap(ring.as_ptr(), ring.len(), written, max_delay, delay) }
 }
 
-pub fn sweep(points: &[u64], values: &[f64], n: u64) -> f64 {
-    unsafe { goqhari_test_sweep(points.as_ptr(), points.len(), values.as_ptr(), values.len(), n) }
+/// The swept corner at n of a lane whose own is `own`.
+pub fn sweep(points: &[u64], values: &[f64], own: f32, n: u64) -> f32 {
+    unsafe { goqhari_test_sweep(points.as_ptr(), points.len(), values.as_ptr(), values.len(), own, n) }
 }
 
-pub fn duck(kicks: &[u64], marks: &mut [u64], cursors: &mut [u64; 2], n: u64, drums: bool) -> f64 {
-    unsafe { goqhari_test_duck(kicks.as_ptr(), kicks.len(), marks.as_mut_ptr(), marks.len(), cursors, n, drums) }
+/// A duck's part of the count store, which holds anything before.
+pub struct Duck {
+    counts: Vec<u64>,
+    cursors: [usize; 3],
 }
 
-/// A fresh tape over `samples`: those before `cut` with the first flag, then a latch, then the rest with the second.
-/// Whether it is at rest then.
-pub fn tape(setup: &Setup, samples: &mut [f64], cut: usize, drums: [bool; 2], to: [f32; 2], over: [u64; 2]) -> bool {
+impl Duck {
+    pub fn new(kicks: &[u64]) -> Self {
+        let mut counts = vec![u64::MAX; 2048];
+        let count =
+            unsafe { goqhari_test_duck_new(kicks.as_ptr(), kicks.len(), counts.as_mut_ptr(), counts.len()) };
+        Self { counts, cursors: [count, 0, 0] }
+    }
+
+    /// The gain of sample n.
+    pub fn gain(&mut self, n: u64, drums: bool) -> f64 {
+        unsafe { goqhari_test_duck(self.counts.as_mut_ptr(), self.counts.len(), &mut self.cursors, n, drums) }
+    }
+}
+
+/// A call to a lane: a run of so many samples with its drums flag, or a latch of daylight and rain, each over a length.
+#[derive(Clone, Copy, Debug)]
+pub enum Call {
+    Run(u64, bool),
+    Latch([f32; 2], [u64; 2]),
+}
+
+impl Call {
+    fn words(&self) -> [u64; 4] {
+        match *self {
+            Call::Run(len, drums) => [0, len, u64::from(drums), 0],
+            Call::Latch([daylight, rain], [grading, darkening]) => {
+                [1, u64::from(daylight.to_bits()) << 32 | u64::from(rain.to_bits()), grading, darkening]
+            }
+        }
+    }
+}
+
+/// A fresh tape over `samples` by calls. Whether it is at rest then.
+pub fn tape(setup: &Setup, samples: &mut [f64], calls: &[Call]) -> bool {
     let Numbers { f32s, f64s, flags } = setup.numbers();
-    let (mut store, mut counts) = stores();
-    let drums = u64::from(drums[0]) | u64::from(drums[1]) << 1;
+    let (mut ring, mut counts) = (vec![f64::NAN; 64], vec![u64::MAX; 2048]);
+    let calls: Vec<u64> = calls.iter().flat_map(Call::words).collect();
     unsafe {
         goqhari_test_tape(
             &f32s,
@@ -157,49 +196,65 @@ pub fn tape(setup: &Setup, samples: &mut [f64], cut: usize, drums: [bool; 2], to
             setup.values.len(),
             setup.kicks.as_ptr(),
             setup.kicks.len(),
-            store.as_mut_ptr(),
-            store.len(),
+            ring.as_mut_ptr(),
+            ring.len(),
             counts.as_mut_ptr(),
             counts.len(),
             samples.as_mut_ptr(),
             samples.len(),
-            cut,
-            drums,
-            &to,
-            &over,
+            calls.as_ptr(),
+            calls.len(),
         )
     }
 }
 
-/// A fresh plate over `x`: its two sides, and whether it is at rest then.
-pub fn plate(x: &[f64]) -> ([Vec<f64>; 2], bool) {
-    let (mut store, _) = stores();
-    let mut left = vec![0.0; x.len()];
-    let mut right = vec![0.0; x.len()];
-    let rest = unsafe {
+/// A fresh plate over `x`, in calls of the given lengths: its two sides, and whether it is at rest then.
+pub fn plate(x: &[f64], calls: &[u64]) -> ([Vec<f64>; 2], bool) {
+    let mut part = vec![f64::NAN; 47_104];
+    let mut left = x.to_vec();
+    let mut right = vec![f64::NAN; x.len()];
+    let rest = plate_in(&mut part, &mut left, &mut right, calls);
+    ([left, right], rest)
+}
+
+/// The same in a lent part: what is sent lies in left, and the sides take its place and right's.
+pub fn plate_in(part: &mut [f64], left: &mut [f64], right: &mut [f64], calls: &[u64]) -> bool {
+    unsafe {
         goqhari_test_plate(
-            store.as_mut_ptr(),
-            store.len(),
-            x.as_ptr(),
-            x.len(),
+            part.as_mut_ptr(),
+            part.len(),
             left.as_mut_ptr(),
             left.len(),
             right.as_mut_ptr(),
             right.len(),
+            calls.as_ptr(),
+            calls.len(),
         )
-    };
-    ([left, right], rest)
+    }
 }
 
-/// A fresh ceiling over frames: what it delivers, and the gain counts.
-pub fn ceiling(left: &[f64], right: &[f64]) -> (Vec<f32>, Vec<u64>) {
-    let (mut store, mut counts) = stores();
+/// A fresh ceiling over frames, in calls of the given lengths: what it delivers, and the gain counts.
+pub fn ceiling(left: &[f64], right: &[f64], calls: &[u64]) -> (Vec<f32>, Vec<u64>) {
+    let (mut samples, mut counts) = (vec![f64::NAN; 1323], vec![u64::MAX; 1104]);
     let mut frames = vec![0.0; 2 * left.len()];
     let mut gains = vec![0; left.len()];
+    ceiling_in((&mut samples, &mut counts), left, right, &mut frames, &mut gains, calls);
+    (frames, gains)
+}
+
+/// The same in lent parts.
+pub fn ceiling_in(
+    (samples, counts): (&mut [f64], &mut [u64]),
+    left: &[f64],
+    right: &[f64],
+    frames: &mut [f32],
+    gains: &mut [u64],
+    calls: &[u64],
+) {
     unsafe {
         goqhari_test_ceiling(
-            store.as_mut_ptr(),
-            store.len(),
+            samples.as_mut_ptr(),
+            samples.len(),
             counts.as_mut_ptr(),
             counts.len(),
             left.as_ptr(),
@@ -210,9 +265,10 @@ pub fn ceiling(left: &[f64], right: &[f64]) -> (Vec<f32>, Vec<u64>) {
             frames.len(),
             gains.as_mut_ptr(),
             gains.len(),
+            calls.as_ptr(),
+            calls.len(),
         );
     }
-    (frames, gains)
 }
 
 /// What a list of calls wrote.

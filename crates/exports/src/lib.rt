@@ -1,4 +1,6 @@
 // Thin C functions over the crates, for the Rust harness beside the part to call. Only the harness links them.
+// Rust promises nothing of what it passes: each tests lengths and bounds first, and does nothing where they do not hold.
+pub mod leaves;
 
 #[no_mangle]
 pub extern "C" fn goqhari_test_widen(x: f32) -> f64 {

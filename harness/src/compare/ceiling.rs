@@ -1,4 +1,4 @@
-//! The ceiling: a fresh one over frames.
+//! The ceiling: a fresh one over frames, call by call.
 
 use oracle::stream::master::Ceiling;
 
@@ -14,6 +14,7 @@ use crate::signal::{self, Signal};
 struct Case {
     left: Signal,
     right: Signal,
+    calls: Vec<u64>,
 }
 
 /// Frames through a ceiling, one at a time, so that each one's gain count is seen.
@@ -42,7 +43,7 @@ impl List for Case {
         let left = signal::wild(rng, len);
         let right =
             if rng.flag() { Signal(left.iter().map(|x| x * 0.5).collect()) } else { signal::wild(rng, len) };
-        Case { left, right }
+        Case { left, right, calls: lists::sizes(rng, len) }
     }
 
     fn samples(&self) -> u64 {
@@ -50,19 +51,24 @@ impl List for Case {
     }
 
     fn difference(&self) -> Option<String> {
-        let ((our_frames, our_gains), (frames, gains)) = (part::ceiling(&self.left, &self.right), self.oracle());
+        let (our_frames, our_gains) = part::ceiling(&self.left, &self.right, &self.calls);
+        let (frames, gains) = self.oracle();
         lists::first("gain count", &our_gains, &gains).or_else(|| lists::first("side", &our_frames, &frames))
     }
 }
 
 impl Shrink for Case {
     fn smaller(&self) -> Vec<Self> {
+        let calls = vec![self.left.len() as u64];
+        if self.calls != calls {
+            return vec![Case { calls, ..self.clone() }];
+        }
         let frames: Vec<(f64, f64)> = self.left.iter().copied().zip(self.right.iter().copied()).collect();
         let mut out: Vec<Self> = halves(&frames)
             .into_iter()
             .map(|kept| {
                 let (left, right) = kept.into_iter().unzip();
-                Case { left: Signal(left), right: Signal(right) }
+                Case { left: Signal(left), right: Signal(right), calls: self.calls.clone() }
             })
             .collect();
         for left in self.left.quieter().into_iter().filter(|left| left.len() == self.left.len()) {

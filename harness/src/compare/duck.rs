@@ -1,10 +1,11 @@
 //! The duck's gain, sample by sample, under runs with and without drums.
 
 use oracle::stream::lanes::Duck;
-use oracle::synth::{SIDECHAIN_ATTACK_S, SIDECHAIN_DB, SIDECHAIN_RELEASE_S};
+use oracle::stream::gain_of_db;
+use oracle::synth::{SIDECHAIN_ATTACK_S, SIDECHAIN_DB, SIDECHAIN_RELEASE_S, samples_at, sidechain_gain};
 
 use super::lists::{self, List};
-use crate::part;
+use crate::part::{self, goqhari_test_sidechain};
 use crate::report::{Budget, Report};
 use crate::rng::Rng;
 use crate::setup::{RATE, Setup};
@@ -21,13 +22,12 @@ struct Case {
 impl Case {
     /// Each sample's gain.
     fn ours(&self) -> Vec<f64> {
-        let mut marks = vec![0; self.kicks.len()];
-        let mut cursors = [0; 2];
+        let mut duck = part::Duck::new(&self.kicks);
         let mut n = self.start;
         let mut out = Vec::new();
         for &(len, drums) in &self.runs {
             for _ in 0..len {
-                out.push(part::duck(&self.kicks, &mut marks, &mut cursors, n, drums));
+                out.push(duck.gain(n, drums));
                 n += 1;
             }
         }
@@ -96,5 +96,11 @@ impl Shrink for Case {
 }
 
 pub fn run(rng: &mut Rng, budget: Budget) -> Report {
-    lists::run::<Case>(rng, budget)
+    let mut report = lists::run::<Case>(rng, budget);
+    let [attack, release] = [SIDECHAIN_ATTACK_S, SIDECHAIN_RELEASE_S].map(|s| samples_at(s, RATE));
+    for since in 0..10_000 {
+        let oracle = sidechain_gain(since, gain_of_db(f64::from(SIDECHAIN_DB)), attack, release);
+        report.compare(since as u64, || format!("{since} since a kick"), goqhari_test_sidechain(since as u64), oracle);
+    }
+    report
 }

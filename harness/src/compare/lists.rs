@@ -22,6 +22,22 @@ pub fn first<T: Alike + Debug>(what: &str, ours: &[T], oracle: &[T]) -> Option<S
     Some(format!("{what} {at}: the part {:?}, the Rust {:?}", ours[at], oracle[at]))
 }
 
+/// The lengths of calls, 0 to 4,096 samples each, that make up `len` samples or more.
+pub fn sizes(rng: &mut Rng, len: usize) -> Vec<u64> {
+    let mut out = Vec::new();
+    let mut sum = 0;
+    while sum < len as u64 {
+        let size = match rng.below(6) {
+            0 => rng.pick(&[0, 1, 31, 32, 33, 4096]),
+            1 => rng.within(0, 4096),
+            _ => rng.scaled(1.0, 4096.0) as u64,
+        };
+        out.push(size);
+        sum += size;
+    }
+    out
+}
+
 /// So many differences have their smallest input sought and shown, which takes seconds; the others are counted.
 const SOUGHT: u64 = 3;
 

@@ -1,8 +1,9 @@
-//! The one-pole: its step from any state, and the pole of a corner.
+//! The one-pole: its step from any state, the tilt under any rain, and the poles that the rate has.
 
-use oracle::stream::onepole::OnePole;
+use oracle::stream::onepole::{OnePole, Tilt};
+use oracle::stream::rain;
 
-use crate::part::{goqhari_test_onepole, goqhari_test_pole};
+use crate::part::{goqhari_test_onepole, goqhari_test_pole, goqhari_test_tilt};
 use crate::report::{Budget, Report};
 use crate::rng::Rng;
 use crate::setup::RATE;
@@ -18,6 +19,10 @@ fn number(rng: &mut Rng) -> f64 {
 
 pub fn run(rng: &mut Rng, budget: Budget) -> Report {
     let mut report = Report::default();
+    for (damping, hz) in [(false, 1200.0), (true, 5000.0)] {
+        let pole = OnePole::new(hz, RATE).parts()[0];
+        report.compare(0, || format!("the pole of {hz}"), goqhari_test_pole(damping), pole);
+    }
     while budget.goes_on(report.cases) {
         let state = [number(rng), number(rng)];
         let x = number(rng);
@@ -27,11 +32,14 @@ pub fn run(rng: &mut Rng, budget: Budget) -> Report {
         let y = oracle.lowpass(x);
         let input = || format!("pole and y {state:?}, sample {x:?}");
         report.compare(x.abs().to_bits(), input, (ours, out), (oracle.parts(), y));
-        if report.cases % 64 == 0 {
-            let hz = if rng.flag() { rng.pick(&[1200.0, 5000.0]) } else { rng.scaled(20.0, 20000.0) as f32 };
-            let pole = OnePole::new(hz, RATE).parts()[0];
-            report.compare(u64::from(hz.to_bits()), || format!("the pole of {hz}"), goqhari_test_pole(hz), pole);
-        }
+        let wet = if rng.flag() { rng.unit() } else { rng.pick(&[0.0, 1.0, -0.0, 0.5]) };
+        let mut ours = state;
+        let out = goqhari_test_tilt(&mut ours, wet, x);
+        let mut oracle = Tilt::of(state[0], state[1]);
+        let mut one = [x];
+        oracle.process_lifted(&mut one, |_| rain::lift(wet));
+        let input = || format!("the tilt, pole and y {state:?}, rain {wet:?}, sample {x:?}");
+        report.compare(x.abs().to_bits(), input, (ours, out), (oracle.parts(), one[0]));
     }
     report
 }

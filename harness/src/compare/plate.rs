@@ -1,4 +1,4 @@
-//! The plate: a fresh one over a signal.
+//! The plate: a fresh one over a signal, call by call.
 
 use oracle::stream::plate::Plate;
 
@@ -11,29 +11,42 @@ use crate::shrink::Shrink;
 use crate::signal::{self, Signal};
 
 #[derive(Clone, Debug)]
-struct Case(Signal);
+struct Case {
+    x: Signal,
+    calls: Vec<u64>,
+}
 
 impl Case {
     fn oracle(&self) -> ([Vec<f64>; 2], bool) {
         let mut plate = Plate::new(RATE);
+        let mut sides = [Vec::new(), Vec::new()];
         let mut out = [Vec::new(), Vec::new()];
-        plate.process(&self.0, &mut out);
-        (out, plate.at_rest())
+        let mut at = 0;
+        for &size in &self.calls {
+            let end = (at + size as usize).min(self.x.len());
+            plate.process(&self.x[at..end], &mut out);
+            for (side, part) in sides.iter_mut().zip(&out) {
+                side.extend_from_slice(part);
+            }
+            at = end;
+        }
+        (sides, plate.at_rest())
     }
 }
 
 impl List for Case {
     fn drawn(rng: &mut Rng) -> Self {
         let len = rng.scaled(1.0, 60000.0) as usize;
-        Case(signal::wild(rng, len))
+        Case { calls: lists::sizes(rng, len), x: signal::wild(rng, len) }
     }
 
     fn samples(&self) -> u64 {
-        self.0.len() as u64
+        self.x.len() as u64
     }
 
     fn difference(&self) -> Option<String> {
-        let (([our_left, our_right], our_rest), ([left, right], rest)) = (part::plate(&self.0), self.oracle());
+        let ([our_left, our_right], our_rest) = part::plate(&self.x, &self.calls);
+        let ([left, right], rest) = self.oracle();
         lists::first("left", &our_left, &left)
             .or_else(|| lists::first("right", &our_right, &right))
             .or_else(|| lists::first("rest answer", &[our_rest], &[rest]))
@@ -42,7 +55,10 @@ impl List for Case {
 
 impl Shrink for Case {
     fn smaller(&self) -> Vec<Self> {
-        self.0.quieter().into_iter().map(Case).collect()
+        let calls = vec![self.x.len() as u64];
+        let mut out = if self.calls == calls { Vec::new() } else { vec![Case { calls, ..self.clone() }] };
+        out.extend(self.x.quieter().into_iter().map(|x| Case { x, ..self.clone() }));
+        out
     }
 }
 

@@ -1,8 +1,10 @@
-//! A ramp's value and its latch, of both shapes, from any state that refusal 4 passes.
+//! A ramp's value and its latch, of both shapes, from any state that refusal 4 passes; and the daylight of a sample.
 
+use oracle::Controls;
+use oracle::stream::lanes::Automation;
 use oracle::stream::ramp::{Ramp, Shape};
 
-use crate::part::{goqhari_test_ramp_at, goqhari_test_ramp_toward};
+use crate::part::{goqhari_test_daylight, goqhari_test_ramp_at, goqhari_test_ramp_toward};
 use crate::report::{Budget, Report};
 use crate::rng::Rng;
 use crate::setup::control;
@@ -44,6 +46,22 @@ pub fn run(rng: &mut Rng, budget: Budget) -> Report {
         let (their_ends, their_span) = ramp.parts();
         let input = || format!("{ends:?} over {span:?}, decibels {db}, at {n} toward {to:?} over {len}");
         report.compare(n, input, (our_ends, our_span), (their_ends, their_span.map(|at| at as u64)));
+        daylight(&mut report, rng);
     }
     report
+}
+
+/// The daylight of a sample under a ramp that a latch made, from the latch on: no call looks before it.
+fn daylight(report: &mut Report, rng: &mut Rng) {
+    let [from, to] = [control(rng), control(rng)];
+    let span = [position(rng), position(rng)];
+    if from == to {
+        return;
+    }
+    let mut automation = Automation::new(Controls { daylight: from, rain: 0.0 }, None);
+    automation.latch(span[0] as usize, Controls { daylight: to, rain: 0.0 }, span[1] as usize, 0);
+    let n = span[0] + if rng.flag() { position(rng) } else { rng.below(span[1] + 2) };
+    let ends = [f64::from(from), f64::from(to)];
+    let input = || format!("daylight {ends:?} over {span:?} at {n}");
+    report.compare(n, input, goqhari_test_daylight(&ends, &span, n), automation.daylight(n as usize));
 }

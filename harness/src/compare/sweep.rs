@@ -1,4 +1,4 @@
-//! The sweep's value at n, the swept corner, and a graded corner and drive.
+//! The sweep at n by the corner that it leaves, the swept corner, and a graded corner and drive.
 
 use oracle::stream::lanes::{Grade, Sweep, swept};
 
@@ -25,9 +25,10 @@ pub fn run(rng: &mut Rng, budget: Budget) -> Report {
             } else {
                 (rng.pick(&points) + rng.below(3)).saturating_sub(1)
             };
-            let input = || format!("{n} of points {points:?} with values {values:?}");
-            let ours = part::sweep(&points, &values, n);
-            report.compare(points.len() as u64, input, ours, sweep.at(n as usize));
+            let own = rng.pick(&[20_000.0, 800.00006, 1e30, corners[0]]);
+            let input = || format!("{n} of points {points:?} with values {values:?}, own corner {own:?}");
+            let ours = part::sweep(&points, &values, own, n);
+            report.compare(points.len() as u64, input, ours, swept(own, sweep.at(n as usize)));
         }
         let [night, day] = corners;
         let x = openness(rng);

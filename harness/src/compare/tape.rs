@@ -1,24 +1,20 @@
-//! The tape lane: a fresh one over a signal, with a latch on the way.
+//! The tape lane: a fresh one over a signal, by runs and latches.
 
 use oracle::Controls;
 
 use super::lists::{self, List};
-use crate::part;
+use crate::part::{self, Call};
 use crate::report::{Budget, Report};
 use crate::rng::Rng;
 use crate::setup::{Setup, control};
-use crate::shrink::Shrink;
+use crate::shrink::{Shrink, each_without};
 use crate::signal::{self, Signal};
 
 #[derive(Clone, Debug)]
 struct Case {
     setup: Setup,
     samples: Signal,
-    /// The latch comes before this sample.
-    cut: usize,
-    drums: [bool; 2],
-    to: [f32; 2],
-    over: [u64; 2],
+    calls: Vec<Call>,
 }
 
 /// A ramp's length: none, short, longer than the signal, or the longest.
@@ -34,7 +30,7 @@ pub fn length(rng: &mut Rng) -> u64 {
 impl Case {
     fn ours(&self) -> (Vec<f64>, bool) {
         let mut out = self.samples.to_vec();
-        let rest = part::tape(&self.setup, &mut out, self.cut, self.drums, self.to, self.over);
+        let rest = part::tape(&self.setup, &mut out, &self.calls);
         (out, rest)
     }
 
@@ -43,27 +39,56 @@ impl Case {
         let mut tape = self.setup.tape(&automation);
         let mut out = self.samples.to_vec();
         let mut band = Vec::new();
-        let (before, after) = out.split_at_mut(self.cut);
-        tape.process(before, 0, &automation, self.drums[0], &mut band);
-        let [daylight, rain] = self.to;
-        let [grade_ramp, rain_ramp] = self.over.map(|len| len as usize);
-        automation.latch(self.cut, Controls { daylight, rain }, grade_ramp, rain_ramp);
-        tape.process(after, self.cut, &automation, self.drums[1], &mut band);
+        let mut at = 0;
+        for &call in &self.calls {
+            match call {
+                Call::Run(len, drums) => {
+                    let end = (at + len as usize).min(out.len());
+                    tape.process(&mut out[at..end], at, &automation, drums, &mut band);
+                    at = end;
+                }
+                Call::Latch([daylight, rain], over) => {
+                    let [grade_ramp, rain_ramp] = over.map(|len| len as usize);
+                    automation.latch(at, Controls { daylight, rain }, grade_ramp, rain_ramp);
+                }
+            }
+        }
         (out, tape.at_rest())
+    }
+
+    /// A tone graded over all corners, whose daylight is flipped at once: its sections diverge, up to NaN.
+    fn flipped(rng: &mut Rng) -> Self {
+        let len = rng.scaled(1000.0, 8000.0) as usize;
+        let mut setup = Setup::drawn(rng, len as u64);
+        setup.graded = true;
+        setup.corners = [20.0, 20_000.0];
+        let every = rng.within(1, 40);
+        let calls = (0..len as u64 / every + 1)
+            .flat_map(|i| {
+                let daylight = (i % 2) as f32;
+                [Call::Latch([daylight, control(rng)], [0, length(rng)]), Call::Run(every, rng.flag())]
+            })
+            .collect();
+        Self { setup, samples: signal::drawn(rng, len), calls }
     }
 }
 
 impl List for Case {
     fn drawn(rng: &mut Rng) -> Self {
-        let len = rng.scaled(1.0, 20000.0) as usize;
-        Self {
-            setup: Setup::drawn(rng, len as u64),
-            samples: signal::drawn(rng, len),
-            cut: rng.below(len as u64 + 1) as usize,
-            drums: [rng.flag(), rng.flag()],
-            to: [control(rng), control(rng)],
-            over: [length(rng), length(rng)],
+        if rng.once_in(6) {
+            return Self::flipped(rng);
         }
+        let len = rng.scaled(1.0, 20000.0) as usize;
+        let setup = Setup::drawn(rng, len as u64);
+        let latches = rng.below(8);
+        let mut calls = Vec::new();
+        for size in lists::sizes(rng, len) {
+            if rng.below(8) < latches {
+                calls.push(Call::Latch([control(rng), control(rng)], [length(rng), length(rng)]));
+            }
+            calls.push(Call::Run(size, rng.flag()));
+        }
+        Self { setup, samples: signal::drawn(rng, len), calls }
     }
 
     fn samples(&self) -> u64 {
@@ -80,8 +105,10 @@ impl Shrink for Case {
     fn smaller(&self) -> Vec<Self> {
         let mut out = Vec::new();
         for samples in self.samples.quieter() {
-            let cut = self.cut.min(samples.len());
-            out.push(Case { samples, cut, ..self.clone() });
+            out.push(Case { samples, ..self.clone() });
+        }
+        for calls in each_without(&self.calls) {
+            out.push(Case { calls, ..self.clone() });
         }
         for setup in self.setup.smaller() {
             out.push(Case { setup, ..self.clone() });

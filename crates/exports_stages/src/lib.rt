@@ -1,0 +1,534 @@
+// C functions for the Rust harness beside the part: a fresh tape lane, plate or ceiling over a whole signal, in calls of the
+// lengths that are given. Only the harness and the replay use them. Rust promises nothing of what it passes: lengths and
+// bounds are tested first, and nothing is done where they do not hold.
+ghost use Prim.Native.Nat.{_<_, _≤_, _*_, _/_};
+ghost use mathlib.Core.Path.{_≡_};
+ghost use lib.ListN.{length};
+ghost use lib.Dec.{T};
+ghost use Rattle.rate.specs.Ceiling.{ceilingRate};
+ghost use Rattle.master.specs.Kept.{ceilingOn};
+ghost use Rattle.master.specs.WellFormed.{wellFormed};
+use automation::Tone;
+use duck::Duck;
+use master::Ceiling;
+use plate::Plate;
+use ramp::Ramp;
+use ramp::Shape;
+use rate::CeilingRate;
+use rate::PlateRate;
+use rate::TapeRate;
+use tape::Pad;
+use tape::Tape;
+use tape::TapeSetup;
+
+// The places of each stage's parts.
+const WARP: usize = 64;
+
+const LINES: usize = 47104;
+
+const LATE: usize = 1323;
+
+const STEPS: usize = 1104;
+
+// No position is above this.
+const LAST: u64 = 4294967296;
+
+fn silence(part: &mut [f64]) {
+    let mut i: usize = 0;
+    while i < part.len() {
+        part[i] = 0.0;
+        i += 1;
+    }
+}
+
+// Where a call of len samples ends that begins at `at`, of `most` samples.
+fn end_of(at: usize, len: u64, most: usize) -> usize
+    requires { ⌜ at ≤ most ⌝ }
+    ensures { λ r. ⌜ (at ≤ r) × (r ≤ most) ⌝ }
+{
+    let left = most - at;
+    if len < left as u64 {
+        return at + len as usize;
+    }
+    most
+}
+
+// Where a piece ends, which has a sample at least.
+fn piece_end(at: usize, len: u64, most: usize) -> usize
+    requires { ⌜ at < most ⌝ }
+    ensures { λ r. ⌜ (at < r) × (r ≤ most) ⌝ }
+{
+    if len == 0 {
+        return at + 1;
+    }
+    let left = most - at;
+    if len < left as u64 {
+        return at + len as usize;
+    }
+    most
+}
+
+// ---- the tape lane
+
+fn tone_of(f32s: &[f32; 8], drive: f64, graded: bool) -> Tone {
+    if graded {
+        return Tone::Graded {
+            night_corner: f32s[0],
+            day_corner: f32s[1],
+            night_drive: f32s[2],
+            day_drive: f32s[3],
+        };
+    }
+    Tone::Fixed {
+        corner: f32s[0],
+        drive,
+    }
+}
+
+fn pad_of(hz: f32, depth: f32, pad: bool) -> Pad {
+    if pad {
+        return Pad::Swell { hz, depth };
+    }
+    Pad::Without
+}
+
+fn setup_of(f32s: &[f32; 8], f64s: &[f64; 4], flags: u64) -> TapeSetup {
+    let tone = tone_of(f32s, f64s[0], flags % 2 == 1);
+    let pad = pad_of(f32s[4], f32s[5], flags / 2 % 2 == 1);
+    TapeSetup {
+        tone,
+        pad,
+        darkened: flags / 4 % 2 == 1,
+        input: f64s[1],
+        output: f64s[2],
+        ducked: flags / 8 % 2 == 1,
+    }
+}
+
+struct Lane {
+    daylight: Ramp,
+    rain: Ramp,
+    tape: Tape,
+}
+
+// A block of one tuning, if all fits.
+fn tuned(
+    setup: TapeSetup,
+    rain: Ramp,
+    drive: f64,
+    tape: Tape,
+    ring: &mut [f64],
+    counts: &mut [u64],
+    block: &mut [f64],
+    n: u64,
+    drums: bool,
+) -> Tape {
+    if ring.len() != WARP {
+        return tape;
+    }
+    if counts.len() < 2048 {
+        return tape;
+    }
+    let duck = tape.duck;
+    if 1024 < duck.count {
+        return tape;
+    }
+    if duck.count < duck.reached {
+        return tape;
+    }
+    if duck.count < duck.ducking {
+        return tape;
+    }
+    if LAST < n {
+        return tape;
+    }
+    if LAST - n < block.len() as u64 {
+        return tape;
+    }
+    let rate = TapeRate::cd();
+    tape::tape_block(
+        rate,
+        setup,
+        rain,
+        drive,
+        tape,
+        ring,
+        counts,
+        block,
+        n,
+        drums,
+    )
+}
+
+// A run, piece by piece.
+fn run(
+    setup: TapeSetup,
+    points: &[u64],
+    values: &[f64],
+    lane: Lane,
+    ring: &mut [f64],
+    counts: &mut [u64],
+    block: &mut [f64],
+    n: u64,
+    drums: bool,
+) -> Tape
+    requires { ⌜ (length (now points) ≤ length (now values)) × (n ≤ 4294967296) ⌝ }
+{
+    let own = setup.tone;
+    let daylight = lane.daylight;
+    let rain = lane.rain;
+    let mut tape = lane.tape;
+    let mut at: usize = 0;
+    while at < block.len() {
+        let piece = automation::piece_at(own, daylight, points, values, n + at as u64);
+        let end = piece_end(at, piece.len, block.len());
+        let tone = tape.tone.retuned(piece.tuning.corner, TapeRate::HZ);
+        tape.tone = tone;
+        tape = tuned(
+            setup,
+            rain,
+            piece.tuning.drive,
+            tape,
+            ring,
+            counts,
+            &mut block[at..end],
+            n + at as u64,
+            drums,
+        );
+        at = end;
+    }
+    tape
+}
+
+fn short_of(b: u64) -> f64 {
+    casts::widen(casts::of_bits_f32((b % 4294967296) as u32))
+}
+
+fn latched(lane: Lane, n: u64, controls: u64, grading: u64, darkening: u64) -> Lane {
+    let tape = lane.tape;
+    let daylight = lane.daylight
+        .toward(n, short_of(controls / 4294967296), grading);
+    let rain = lane.rain.toward(n, short_of(controls), darkening);
+    Lane {
+        daylight,
+        rain,
+        tape,
+    }
+}
+
+// A run of so many samples with drums or not, or a latch of the controls' patterns over two lengths.
+struct Call {
+    latch: bool,
+    first: u64,
+    second: u64,
+    third: u64,
+}
+
+// The call at k, four words each.
+fn call_at(calls: &[u64], k: usize) -> Call
+    requires { ⌜ k < length (now calls) / 4 ⌝ }
+{
+    Call {
+        latch: calls[4 * k] != 0,
+        first: calls[4 * k + 1],
+        second: calls[4 * k + 2],
+        third: calls[4 * k + 3],
+    }
+}
+
+// The samples that a call takes.
+fn taken(call: Call) -> u64 {
+    if call.latch { 0 } else { call.first }
+}
+
+fn called(
+    setup: TapeSetup,
+    points: &[u64],
+    values: &[f64],
+    lane: Lane,
+    ring: &mut [f64],
+    counts: &mut [u64],
+    block: &mut [f64],
+    n: u64,
+    call: Call,
+) -> Lane {
+    if call.latch {
+        return latched(lane, n, call.first, call.second, call.third);
+    }
+    if values.len() < points.len() {
+        return lane;
+    }
+    if LAST < n {
+        return lane;
+    }
+    let tape = run(
+        setup,
+        points,
+        values,
+        lane,
+        ring,
+        counts,
+        block,
+        n,
+        call.second != 0,
+    );
+    let daylight = lane.daylight;
+    let rain = lane.rain;
+    Lane {
+        daylight,
+        rain,
+        tape,
+    }
+}
+
+// The calls over the samples in place.
+fn all_called(
+    setup: TapeSetup,
+    points: &[u64],
+    values: &[f64],
+    lane: Lane,
+    ring: &mut [f64],
+    counts: &mut [u64],
+    samples: &mut [f64],
+    calls: &[u64],
+) -> Lane {
+    let mut lane = lane;
+    let mut at: usize = 0;
+    let mut k: usize = 0;
+    while k < calls.len() / 4 {
+        let call = call_at(calls, k);
+        k += 1;
+        let end = end_of(at, taken(call), samples.len());
+        lane = called(
+            setup,
+            points,
+            values,
+            lane,
+            ring,
+            counts,
+            &mut samples[at..end],
+            at as u64,
+            call,
+        );
+        at = end;
+    }
+    lane
+}
+
+fn fresh_lane(f32s: &[f32; 8], kicks: usize) -> Lane {
+    let daylight = Ramp::held(casts::widen(f32s[6]), Shape::Linear);
+    let rain = Ramp::held(casts::widen(f32s[7]), Shape::Linear);
+    let tape = tape::fresh(TapeRate::cd(), kicks);
+    Lane {
+        daylight,
+        rain,
+        tape,
+    }
+}
+
+// A fresh lane; whether it is at rest at the end.
+#[no_mangle]
+pub extern "C" fn goqhari_test_tape(
+    f32s: &[f32; 8],
+    f64s: &[f64; 4],
+    flags: u64,
+    points: &[u64],
+    values: &[f64],
+    kicks: &[u64],
+    ring: &mut [f64],
+    counts: &mut [u64],
+    samples: &mut [f64],
+    calls: &[u64],
+) -> bool {
+    if 1024 < kicks.len() {
+        return false;
+    }
+    if counts.len() < 2048 {
+        return false;
+    }
+    silence(ring);
+    let duck = Duck::new(kicks, counts);
+    let setup = setup_of(f32s, f64s, flags);
+    let lane = fresh_lane(f32s, duck.count);
+    let after = all_called(setup, points, values, lane, ring, counts, samples, calls);
+    tape::at_rest(after.tape, ring)
+}
+
+// ---- the plate
+
+// A call, if all fits.
+fn plated(plate: Plate, part: &mut [f64], left: &mut [f64], right: &mut [f64], n: u64) -> Plate {
+    if part.len() != LINES {
+        return plate;
+    }
+    if right.len() != left.len() {
+        return plate;
+    }
+    if LAST < n {
+        return plate;
+    }
+    if LAST - n < left.len() as u64 {
+        return plate;
+    }
+    let rate = PlateRate::cd();
+    plate::block(rate, plate, part, left, right, n)
+}
+
+fn all_plated(
+    plate: Plate,
+    part: &mut [f64],
+    left: &mut [f64],
+    right: &mut [f64],
+    calls: &[u64],
+) -> Plate
+    requires { ⌜ length (now right) ≡ length (now left) ⌝ }
+{
+    let mut plate = plate;
+    let mut at: usize = 0;
+    let mut k: usize = 0;
+    while k < calls.len() {
+        let end = end_of(at, calls[k], left.len());
+        k += 1;
+        plate = plated(
+            plate,
+            part,
+            &mut left[at..end],
+            &mut right[at..end],
+            at as u64,
+        );
+        at = end;
+    }
+    plate
+}
+
+// A fresh plate over what lies in left, in calls of the given lengths; whether it is at rest at the end.
+#[no_mangle]
+pub extern "C" fn goqhari_test_plate(
+    part: &mut [f64],
+    left: &mut [f64],
+    right: &mut [f64],
+    calls: &[u64],
+) -> bool {
+    if right.len() != left.len() {
+        return false;
+    }
+    silence(part);
+    let plate = all_plated(Plate::new(PlateRate::cd()), part, left, right, calls);
+    plate::at_rest(plate, part)
+}
+
+// ---- the ceiling
+
+// A call. A well-formed ceiling stays so, hence the test at the start alone.
+fn limited(
+    c: Ceiling,
+    samples: &mut [f64],
+    counts: &mut [u64],
+    left: &[f64],
+    right: &[f64],
+    frames: &mut [f32],
+    gains: &mut [u64],
+    n: u64,
+) -> Ceiling
+    requires { ⌜ (1323 ≤ length (now samples)) × (1104 ≤ length (now counts)) ⌝ }
+    requires { ⌜ T (wellFormed (ceilingRate 44100) (ceilingOn c (now samples) (now counts))) ⌝ }
+    ensures { λ r. ⌜ T (wellFormed (ceilingRate 44100) (ceilingOn r (now (samples .exit)) (now (counts .exit)))) ⌝ }
+{
+    if LAST < n {
+        return c;
+    }
+    if LAST - n < left.len() as u64 {
+        return c;
+    }
+    if right.len() != left.len() {
+        return c;
+    }
+    if gains.len() != left.len() {
+        return c;
+    }
+    if frames.len() % 2 != 0 {
+        return c;
+    }
+    if frames.len() / 2 != left.len() {
+        return c;
+    }
+    let rate = CeilingRate::cd();
+    master::block(rate, c, samples, counts, n, left, right, frames, gains)
+}
+
+fn all_limited(
+    c: Ceiling,
+    samples: &mut [f64],
+    counts: &mut [u64],
+    left: &[f64],
+    right: &[f64],
+    frames: &mut [f32],
+    gains: &mut [u64],
+    calls: &[u64],
+)
+    requires { ⌜ (1323 ≤ length (now samples)) × (1104 ≤ length (now counts)) ⌝ }
+    requires { ⌜ T (wellFormed (ceilingRate 44100) (ceilingOn c (now samples) (now counts))) ⌝ }
+    requires { ⌜ length (now left) ≤ 4294967296 ⌝ }
+    requires { ⌜ (length (now right) ≡ length (now left)) × (length (now gains) ≡ length (now left)) ⌝ }
+    requires { ⌜ length (now frames) ≡ 2 * length (now left) ⌝ }
+{
+    let mut c = c;
+    let mut at: usize = 0;
+    let mut k: usize = 0;
+    while k < calls.len() {
+        let end = end_of(at, calls[k], left.len());
+        k += 1;
+        let from = 2 * at;
+        let to = 2 * end;
+        c = limited(
+            c,
+            samples,
+            counts,
+            &left[at..end],
+            &right[at..end],
+            &mut frames[from..to],
+            &mut gains[at..end],
+            at as u64,
+        );
+        at = end;
+    }
+}
+
+// A fresh ceiling over the frames (left, right), in calls of the given lengths.
+#[no_mangle]
+pub extern "C" fn goqhari_test_ceiling(
+    samples: &mut [f64],
+    counts: &mut [u64],
+    left: &[f64],
+    right: &[f64],
+    frames: &mut [f32],
+    gains: &mut [u64],
+    calls: &[u64],
+) {
+    if samples.len() < LATE {
+        return;
+    }
+    if counts.len() < STEPS {
+        return;
+    }
+    if LAST < left.len() as u64 {
+        return;
+    }
+    if right.len() != left.len() {
+        return;
+    }
+    if gains.len() != left.len() {
+        return;
+    }
+    if frames.len() % 2 != 0 {
+        return;
+    }
+    if frames.len() / 2 != left.len() {
+        return;
+    }
+    let rate = CeilingRate::cd();
+    let c = master::fresh(rate, samples, counts);
+    if master::well_formed(rate, c, samples, counts) {
+        all_limited(c, samples, counts, left, right, frames, gains, calls);
+    }
+}

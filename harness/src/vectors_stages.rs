@@ -1,0 +1,244 @@
+//! Prints the list that crates/replay_stages runs: answers of single functions on draws of a fixed seed, then a lane's setup
+//! and a signal through the tape, the plate and the ceiling, all by the oracle. A line is a name and 12 numbers, patterns in
+//! hexadecimal; a single answer is the last of them.
+#![allow(dead_code)]
+
+mod compare;
+mod part;
+mod report;
+mod rng;
+mod setup;
+mod shrink;
+mod signal;
+mod strip;
+
+use oracle::Controls;
+use oracle::stream::biquad::{butter_lowpass, section};
+use oracle::stream::delay::DelayLine;
+use oracle::stream::gain_of_db;
+use oracle::stream::lanes::{Automation, Grade, Sweep, swept};
+use oracle::stream::master::Ceiling;
+use oracle::stream::onepole::{OnePole, Tilt};
+use oracle::stream::plate::Plate;
+use oracle::stream::rain;
+use oracle::stream::ramp::{Ramp, Shape};
+use oracle::synth::{SIDECHAIN_ATTACK_S, SIDECHAIN_DB, SIDECHAIN_RELEASE_S, samples_at, sidechain_gain};
+
+use compare::ceiling::limited;
+use rng::Rng;
+use setup::{RATE, Setup, control};
+
+/// Lines for each function.
+const LINES: u64 = 200;
+
+/// Samples of a signal.
+const SAMPLES: usize = 300;
+
+/// A name and up to 12 numbers, the answer last.
+fn line(name: &str, numbers: &[u64], answer: u64) {
+    let mut all = [0; 12];
+    all[..numbers.len()].copy_from_slice(numbers);
+    all[11] = answer;
+    row(name, &all);
+}
+
+fn row(name: &str, numbers: &[u64]) {
+    let mut all = [0; 12];
+    all[..numbers.len()].copy_from_slice(numbers);
+    let words: Vec<String> = all.iter().map(|n| format!("{n:016x}")).collect();
+    println!("{name:8}{}", words.join(" "));
+}
+
+/// An f64's pattern, one for all NaNs.
+fn bits(x: f64) -> u64 {
+    if x.is_nan() { 0x7ff8_0000_0000_0000 } else { x.to_bits() }
+}
+
+/// An f32's, one for all NaNs.
+fn short(x: f32) -> u64 {
+    u64::from(if x.is_nan() { 0x7fc0_0000 } else { x.to_bits() })
+}
+
+/// A number as a filter has it, or any.
+fn number(rng: &mut Rng) -> f64 {
+    match rng.below(8) {
+        0 => rng.any_f64(),
+        1 => rng.pick(&[0.0, -0.0, 1e-20, -1e-20, 9.999999999999999e-21, f64::NAN, f64::INFINITY]),
+        2 => rng.between(-1.0, 1.0) * 1e-20,
+        _ => rng.between(-1.5, 1.5),
+    }
+}
+
+fn filters(rng: &mut Rng) {
+    for i in 0..LINES {
+        let five = butter_lowpass(rng.scaled(20.0, 20000.0) as f32, 4, RATE).coefficients()[(i % 2) as usize];
+        let nine: [f64; 9] = std::array::from_fn(|k| if k < 5 && i % 4 != 0 { five[k] } else { number(rng) });
+        let x = number(rng);
+        let numbers: Vec<u64> = nine.iter().chain([&x]).map(|&v| bits(v)).collect();
+        line("section", &numbers, bits(section(nine, x).1));
+    }
+    for _ in 0..LINES {
+        let [pole, y, x] = [number(rng), number(rng), number(rng)];
+        line("onepole", &[pole, y, x].map(bits), bits(OnePole::of(pole, y).lowpass(x)));
+    }
+    for _ in 0..LINES {
+        let [pole, y, wet, x] = [number(rng), number(rng), rng.unit(), number(rng)];
+        let mut one = [x];
+        Tilt::of(pole, y).process_lifted(&mut one, |_| rain::lift(wet));
+        line("tilt", &[pole, y, wet, x].map(bits), bits(one[0]));
+    }
+}
+
+fn delays(rng: &mut Rng) {
+    for _ in 0..LINES {
+        let ring: Vec<f64> = (0..4).map(|_| number(rng)).collect();
+        let written = if rng.flag() { rng.below(8) } else { rng.below(1 << 32) };
+        let most = rng.pick(&[2.0, 1.5, 0.0]);
+        let delay = if rng.flag() { rng.between(-0.5, 2.5) } else { rng.pick(&[0.0, -1.0, 1.0, 9.0, f64::NAN]) };
+        let mut numbers: Vec<u64> = ring.iter().map(|&v| bits(v)).collect();
+        numbers.extend([written, bits(most), bits(delay)]);
+        line("delay", &numbers, bits(DelayLine::of(ring, most, written).tap(delay)));
+    }
+}
+
+fn position(rng: &mut Rng) -> u64 {
+    if rng.once_in(5) { rng.pick(&[0, 1, 1 << 32]) } else { rng.below(300) }
+}
+
+fn ramps(rng: &mut Rng) {
+    for i in 0..LINES {
+        let db = i % 2 == 1;
+        let ends = if db { [rng.between(0.001, 1.0), rng.between(0.001, 1.0)] } else { [control(rng), control(rng)].map(f64::from) };
+        let span = [position(rng), position(rng)];
+        let n = if rng.flag() { position(rng) } else { span[0] + rng.below(span[1] + 2) };
+        let shape = if db { Shape::Db } else { Shape::Linear };
+        let ramp = Ramp::of(ends[0], ends[1], span[0] as usize, span[1] as usize, shape);
+        line("ramp", &[bits(ends[0]), bits(ends[1]), span[0], span[1], u64::from(db), n], bits(ramp.at(n as usize)));
+    }
+    for _ in 0..LINES {
+        let [from, to] = [rng.between(0.0, 0.5) as f32, rng.between(0.5, 1.0) as f32];
+        let span = [position(rng), position(rng)];
+        let n = span[0] + rng.below(span[1] + 2);
+        let mut automation = Automation::new(Controls { daylight: from, rain: 0.0 }, None);
+        automation.latch(span[0] as usize, Controls { daylight: to, rain: 0.0 }, span[1] as usize, 0);
+        let numbers = [bits(f64::from(from)), bits(f64::from(to)), span[0], span[1], n];
+        line("daylight", &numbers, bits(automation.daylight(n as usize)));
+    }
+}
+
+fn tones(rng: &mut Rng) {
+    for _ in 0..LINES {
+        let mut points = [rng.below(200), rng.below(200), rng.below(200)];
+        points.sort_unstable();
+        if rng.once_in(4) {
+            points[1] = points[0];
+        }
+        let values = [rng.unit(), rng.pick(&[0.0, 1.0, 0.5]), rng.unit()];
+        let own = rng.scaled(700.0, 20000.0) as f32;
+        let n = rng.below(220);
+        let sweep = Sweep::new(points.iter().map(|&at| at as usize).zip(values).collect());
+        let mut numbers = points.to_vec();
+        numbers.extend(values.map(bits));
+        numbers.extend([short(own), n]);
+        line("sweep", &numbers, short(swept(own, sweep.at(n as usize))));
+    }
+    for _ in 0..LINES {
+        let (own, x) = (rng.scaled(20.0, 20000.0) as f32, if rng.once_in(4) { rng.pick(&[0.0, 1.0, -0.0]) } else { rng.unit() });
+        line("opened", &[short(own), bits(x)], short(swept(own, x)));
+    }
+    for drives in [false, true] {
+        for _ in 0..LINES {
+            let t = if rng.once_in(4) { rng.pick(&[0.0, 1.0, -0.0]) } else { rng.unit() };
+            let ends = if drives { [rng.between(0.1, 8.0), rng.between(0.1, 8.0)] } else { [rng.scaled(20.0, 20000.0), rng.scaled(20.0, 20000.0)] };
+            let ends = ends.map(|end| end as f32);
+            let grade = Grade::new(ends, ends);
+            let numbers = [short(ends[0]), short(ends[1]), bits(t)];
+            if drives { line("drive", &numbers, bits(grade.drive(t))) } else { line("corner", &numbers, short(grade.corner_hz(t))) }
+        }
+    }
+    let [attack, release] = [SIDECHAIN_ATTACK_S, SIDECHAIN_RELEASE_S].map(|s| samples_at(s, RATE));
+    for i in 0..LINES {
+        let since = [0, 440, 441, 442, 8819, 8820, 1 << 32].get(i as usize).copied().unwrap_or(rng.below(9000));
+        line("side", &[since], bits(sidechain_gain(since as usize, gain_of_db(f64::from(SIDECHAIN_DB)), attack, release)));
+    }
+}
+
+/// A lane that has everything, over three calls: a run, a latch and a run.
+fn tape(rng: &mut Rng) {
+    let setup = Setup {
+        graded: true,
+        corners: [900.0, 9000.0],
+        drives: [1.2, 3.0],
+        drive: 1.0,
+        pad: Some([7.3, 0.4]),
+        darkens: true,
+        gains: [1.5, 0.8],
+        ducked: true,
+        daylight: 0.25,
+        rain: 0.75,
+        send: 0.0,
+        points: vec![40, 100, 100, 250],
+        values: vec![1.0, 0.5, 0.25, 0.75],
+        kicks: vec![3, 70, 70, 90, 120, 130, 150, 200, 200, 299, 1 << 20, 1 << 32],
+    };
+    let numbers = setup.numbers();
+    row("f32s", &numbers.f32s.map(short));
+    let mut second: Vec<u64> = numbers.f64s.map(bits).to_vec();
+    second.push(numbers.flags);
+    row("f64s", &second);
+    row("points", &setup.points);
+    row("values", &setup.values.iter().map(|&v| bits(v)).collect::<Vec<_>>());
+    row("kicks", &setup.kicks);
+    let controls = [0.9f32, 0.1];
+    row("calls", &[0, 120, 1, 0, 1, short(controls[0]) << 32 | short(controls[1]), 77, 50, 0, 180, 0, 0]);
+    let x: Vec<f64> = (0..SAMPLES).map(|_| rng.between(-1.2, 1.2)).collect();
+    let mut y = x.clone();
+    let mut automation = setup.automation();
+    let mut lane = setup.tape(&automation);
+    lane.process(&mut y[..120], 0, &automation, true, &mut Vec::new());
+    automation.latch(120, Controls { daylight: controls[0], rain: controls[1] }, 77, 50);
+    lane.process(&mut y[120..], 120, &automation, false, &mut Vec::new());
+    for (x, y) in x.iter().zip(y) {
+        row("tape", &[bits(*x), 0, bits(y)]);
+    }
+}
+
+/// The lengths of the calls that a stage is run in.
+const CALLS: [u64; 12] = [1, 0, 31, 32, 33, 64, 0, 100, 700, 39, 2000, 0];
+
+/// The signal ten times over, since the plate answers late: the last time's answers.
+fn plate(rng: &mut Rng) {
+    row("calls", &CALLS);
+    let x: Vec<f64> = (0..SAMPLES).map(|_| rng.between(-1.0, 1.0)).collect();
+    let mut sides = [Vec::new(), Vec::new()];
+    Plate::new(RATE).process(&x.repeat(10), &mut sides);
+    for (i, x) in x.iter().enumerate() {
+        let [left, right] = [0, 1].map(|side| sides[side][9 * SAMPLES + i]);
+        row("plate", &[bits(*x), 0, bits(left), bits(right)]);
+    }
+}
+
+fn ceiling(rng: &mut Rng) {
+    row("calls", &CALLS);
+    let mut frames: Vec<[f64; 2]> = (0..SAMPLES).map(|_| [rng.between(-2.0, 2.0), rng.between(-1.0, 1.0)]).collect();
+    frames[5] = [f64::NAN, 3.0];
+    frames[6] = [f64::NAN, f64::NAN];
+    frames[7] = [-0.0, f64::INFINITY];
+    frames[8] = [f64::from(0.891_250_9f32), -0.0];
+    let (out, gains) = limited(&mut Ceiling::new(RATE), &frames);
+    for (i, frame) in frames.iter().enumerate() {
+        row("ceiling", &[bits(frame[0]), bits(frame[1]), short(out[2 * i]), short(out[2 * i + 1]), gains[i]]);
+    }
+}
+
+fn main() {
+    let mut rng = Rng::new(LINES);
+    filters(&mut rng);
+    delays(&mut rng);
+    ramps(&mut rng);
+    tones(&mut rng);
+    row("end", &[]);
+    tape(&mut rng);
+    plate(&mut rng);
+    ceiling(&mut rng);
+}
