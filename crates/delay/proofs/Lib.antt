@@ -3,4 +3,3 @@ pub mod Part
 pub mod Whole
 pub mod Line
 pub mod Rest
-pub mod Cases

@@ -1,2 +1,3 @@
 -- Delay lines: the definitions that the contracts cite.
 pub mod Delay
+pub mod Cases

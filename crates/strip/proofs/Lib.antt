@@ -5,3 +5,4 @@ pub mod Related
 pub mod Opening
 pub mod Joined
 pub mod Bound
+pub mod Cases

@@ -3,3 +3,4 @@ pub mod Refusals
 pub mod Machine
 pub mod Calls
 pub mod Promise
+pub mod Cases

@@ -8,7 +8,7 @@ use Rattle.delay.specs.declared.DelayLine.{DelayLine}
 use Rattle.delay.specs.Delay.{ringOf, powerFrom, pushOf, atOf, tapOf, linePush, lineTap, storePush, storeTap}
 
 -- as the list of its last samples
-pub line : List Float
+unfoldable pub line : List Float
 line = pushOf (ringOf 2) (pushOf (ringOf 2) (pushOf (ringOf 2) (replicate (ringOf 2) nought) one) two) (whole 3)
 
 pub case-i : (tapOf (atOf line) two (neg one) ≡ whole 3) × (tapOf (atOf line) two nought ≡ whole 3) × (tapOf (atOf line) two half ≡ ofBits binary64 0x4004_0000_0000_0000) × (tapOf (atOf line) two (whole 9) ≡ one)
@@ -16,10 +16,10 @@ unfolding line ringOf powerFrom tapOf ofInt add mul sub ofBits lt toUnsigned
 case-i = (refl, refl, refl, refl)
 
 -- as a ring
-pub ring : DelayLine
+unfoldable pub ring : DelayLine
 ring = record { at = 0; ring = ringOf 2 }
 
-pub store : List Float
+unfoldable pub store : List Float
 unfolding ring
 store = linePush ring (linePush ring (linePush ring (replicate (ringOf 2) nought) 0 one) 1 two) 2 (whole 3)
 
