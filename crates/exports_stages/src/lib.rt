@@ -8,7 +8,6 @@ ghost use lib.Dec.{T};
 ghost use Rattle.rate.specs.Ceiling.{ceilingRate};
 ghost use Rattle.master.specs.Kept.{ceilingOn};
 ghost use Rattle.master.specs.WellFormed.{wellFormed};
-use automation::Tone;
 use duck::Duck;
 use master::Ceiling;
 use plate::Plate;
@@ -17,7 +16,6 @@ use ramp::Shape;
 use rate::CeilingRate;
 use rate::PlateRate;
 use rate::TapeRate;
-use tape::Pad;
 use tape::Tape;
 use tape::TapeSetup;
 
@@ -69,41 +67,6 @@ fn piece_end(at: usize, len: u64, most: usize) -> usize
 }
 
 // ---- the tape lane
-
-fn tone_of(f32s: &[f32; 8], drive: f64, graded: bool) -> Tone {
-    if graded {
-        return Tone::Graded {
-            night_corner: f32s[0],
-            day_corner: f32s[1],
-            night_drive: f32s[2],
-            day_drive: f32s[3],
-        };
-    }
-    Tone::Fixed {
-        corner: f32s[0],
-        drive,
-    }
-}
-
-fn pad_of(hz: f32, depth: f32, pad: bool) -> Pad {
-    if pad {
-        return Pad::Swell { hz, depth };
-    }
-    Pad::Without
-}
-
-fn setup_of(f32s: &[f32; 8], f64s: &[f64; 4], flags: u64) -> TapeSetup {
-    let tone = tone_of(f32s, f64s[0], flags % 2 == 1);
-    let pad = pad_of(f32s[4], f32s[5], flags / 2 % 2 == 1);
-    TapeSetup {
-        tone,
-        pad,
-        darkened: flags / 4 % 2 == 1,
-        input: f64s[1],
-        output: f64s[2],
-        ducked: flags / 8 % 2 == 1,
-    }
-}
 
 struct Lane {
     daylight: Ramp,
@@ -348,7 +311,7 @@ pub extern "C" fn goqhari_test_tape(
     }
     silence(ring);
     let duck = Duck::new(kicks, counts);
-    let setup = setup_of(f32s, f64s, flags);
+    let setup = exports_setup::setup_of(f32s, f64s, flags);
     let lane = fresh_lane(f32s, duck.count);
     let after = all_called(setup, points, values, lane, ring, counts, samples, calls);
     tape::at_rest(after.tape, ring)

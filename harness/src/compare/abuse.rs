@@ -39,12 +39,6 @@ const FIELDS: &[Field] = &[
         declined: |s| vec![s.kicks.len() as u64 + 1, u64::MAX],
         passed: |s| vec![0, s.kicks.len() as u64],
     },
-    Field {
-        number: 4,
-        places: 1,
-        declined: |s| vec![s.points.len() as u64 + 1, u64::MAX],
-        passed: |s| vec![0, s.points.len() as u64],
-    },
     Field { number: 5, places: 1, declined: |_| vec![884, u64::MAX], passed: |_| vec![0] },
     Field {
         number: 6,
