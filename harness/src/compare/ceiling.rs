@@ -30,6 +30,15 @@ pub fn limited(ceiling: &mut Ceiling, frames: &[[f64; 2]]) -> (Vec<f32>, Vec<u64
     (out, gains)
 }
 
+/// A steady tone, or a level held, whose peaks stand at the limit, one f64 to either side of it, or far above.
+fn steady(rng: &mut Rng, len: usize) -> Signal {
+    let limit = f64::from(Ceiling::new(RATE).clamp(f64::INFINITY));
+    let level = rng.pick(&[limit, limit.next_up(), limit.next_down(), 2.0 * limit, 2f64.powi(100)]);
+    let turn = rng.between(0.0, 3.0);
+    let step = rng.pick(&[0.0, std::f64::consts::PI, turn]);
+    Signal((0..len).map(|i| level * (step * i as f64).cos()).collect())
+}
+
 impl Case {
     fn oracle(&self) -> (Vec<f32>, Vec<u64>) {
         let frames: Vec<[f64; 2]> = self.left.iter().zip(self.right.iter()).map(|(&l, &r)| [l, r]).collect();
@@ -40,7 +49,7 @@ impl Case {
 impl List for Case {
     fn drawn(rng: &mut Rng) -> Self {
         let len = rng.scaled(1.0, 8000.0) as usize;
-        let left = signal::wild(rng, len);
+        let left = if rng.once_in(4) { steady(rng, len) } else { signal::wild(rng, len) };
         let right =
             if rng.flag() { Signal(left.iter().map(|x| x * 0.5).collect()) } else { signal::wild(rng, len) };
         Case { left, right, calls: lists::sizes(rng, len) }
