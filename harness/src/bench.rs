@@ -70,7 +70,7 @@ fn tape(name: &str, setup: &Setup, x: &[f64], size: usize, rounds: u64) {
     let mut rust = || {
         theirs.copy_from_slice(x);
         let automation = setup.automation();
-        let mut tape = setup.tape(&automation);
+        let mut tape = setup.tape(&automation, RATE);
         let mut band = Vec::new();
         for (i, call) in theirs.chunks_mut(size).enumerate() {
             tape.process(call, i * size, &automation, true, &mut band);

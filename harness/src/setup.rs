@@ -131,8 +131,8 @@ impl Setup {
         Automation::new(Controls { daylight: self.daylight, rain: self.rain }, sweep)
     }
 
-    /// `Tape::new` under these, as Chain calls it.
-    pub fn tape(&self, automation: &Automation) -> Tape {
+    /// `Tape::new` under these at a rate, as Chain calls it.
+    pub fn tape(&self, automation: &Automation, rate: u32) -> Tape {
         let own = if self.graded {
             Tone::Graded(Grade::new(self.corners, self.drives))
         } else {
@@ -146,9 +146,9 @@ impl Setup {
         });
         let duck = self.ducked.then(|| {
             let kicks: Vec<usize> = self.kicks.iter().map(|&kick| kick as usize).collect();
-            Duck::new(&kicks, SIDECHAIN_DB, SIDECHAIN_ATTACK_S, SIDECHAIN_RELEASE_S, RATE)
+            Duck::new(&kicks, SIDECHAIN_DB, SIDECHAIN_ATTACK_S, SIDECHAIN_RELEASE_S, rate)
         });
-        Tape::new(own, pad, self.darkens, self.gains, duck, automation, RATE)
+        Tape::new(own, pad, self.darkens, self.gains, duck, automation, rate)
     }
 }
 

@@ -6,7 +6,7 @@ use oracle::stream::master::Ceiling;
 use oracle::stream::plate::Plate;
 
 use crate::compare::ceiling::limited;
-use crate::setup::{RATE, Setup};
+use crate::setup::Setup;
 
 /// Positions are at most this.
 pub const END: u64 = 1 << 32;
@@ -63,15 +63,15 @@ pub fn why_not(setup: &Setup) -> u64 {
 }
 
 impl Strip {
-    /// A strip of a setup that `why_not` passes.
-    pub fn open(setup: &Setup) -> Self {
+    /// A strip of a setup that `why_not` passes, at a rate.
+    pub fn open(setup: &Setup, rate: u32) -> Self {
         let automation = setup.automation();
         Self {
-            tape: setup.tape(&automation),
+            tape: setup.tape(&automation, rate),
             automation,
             send: setup.send,
-            plate: Plate::new(RATE),
-            ceiling: Ceiling::new(RATE),
+            plate: Plate::new(rate),
+            ceiling: Ceiling::new(rate),
             n: 0,
         }
     }

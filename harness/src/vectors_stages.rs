@@ -194,7 +194,7 @@ fn tape(rng: &mut Rng) {
     let x: Vec<f64> = (0..SAMPLES).map(|_| rng.between(-1.2, 1.2)).collect();
     let mut y = x.clone();
     let mut automation = setup.automation();
-    let mut lane = setup.tape(&automation);
+    let mut lane = setup.tape(&automation, RATE);
     lane.process(&mut y[..120], 0, &automation, true, &mut Vec::new());
     automation.latch(120, Controls { daylight: controls[0], rain: controls[1] }, 77, 50);
     lane.process(&mut y[120..], 120, &automation, false, &mut Vec::new());

@@ -6,3 +6,4 @@ pub mod Opening
 pub mod Joined
 pub mod Bound
 pub mod Cases
+pub mod Edges

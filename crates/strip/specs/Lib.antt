@@ -4,3 +4,4 @@ pub mod Machine
 pub mod Calls
 pub mod Promise
 pub mod Cases
+pub mod Edges

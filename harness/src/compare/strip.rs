@@ -5,7 +5,7 @@ use super::tape::length;
 use crate::part::{self, COUNTS, STORE, Written};
 use crate::report::{Budget, Report};
 use crate::rng::Rng;
-use crate::setup::{Setup, control};
+use crate::setup::{RATE, Setup, control};
 use crate::shrink::{Shrink, each_without};
 use crate::signal::{self, Signal};
 use crate::strip::{Strip, why_not};
@@ -109,7 +109,7 @@ impl Case {
         if out.answers[0] != 0 {
             return out;
         }
-        let mut strip = Strip::open(&self.setup);
+        let mut strip = Strip::open(&self.setup, RATE);
         let mut at = 0;
         for (i, call) in self.calls.iter().enumerate() {
             let len = call.samples().len();

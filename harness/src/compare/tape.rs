@@ -6,7 +6,7 @@ use super::lists::{self, List};
 use crate::part::{self, Call};
 use crate::report::{Budget, Report};
 use crate::rng::Rng;
-use crate::setup::{Setup, control};
+use crate::setup::{RATE, Setup, control};
 use crate::shrink::{Shrink, each_without};
 use crate::signal::{self, Signal};
 
@@ -36,7 +36,7 @@ impl Case {
 
     fn oracle(&self) -> (Vec<f64>, bool) {
         let mut automation = self.setup.automation();
-        let mut tape = self.setup.tape(&automation);
+        let mut tape = self.setup.tape(&automation, RATE);
         let mut out = self.samples.to_vec();
         let mut band = Vec::new();
         let mut at = 0;

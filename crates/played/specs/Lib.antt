@@ -1,0 +1,2 @@
+-- Lists of calls with the Rust's answers.
+pub mod Lists

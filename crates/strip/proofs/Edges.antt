@@ -1,0 +1,30 @@
+-- The refusals' edges at 44,100 Hz. Assumes nothing.
+use mathlib.Core.Path.{_≡_, refl}
+use mathlib.Core.Bool.{true}
+use mathlib.Core.List.{List, [], _∷_}
+use Prim.Native.Nat.{ℕ, _-_}
+use lib.ListN.{length}
+use lib.Ieee.{Float, ofBits, neg, le, ofInt}
+use Rattle.rate.specs.Rate.{rateOf}
+use Rattle.tape.specs.Tape.{Lists}
+use Rattle.strip.specs.declared.Setup.{Setup}
+use Rattle.strip.specs.Refusals.{furthest, inRange, longEnough, okOutputs, okEnd, okSample, allOk, runRefusal, openRefusal}
+use Rattle.strip.specs.Calls.{State, first}
+use Rattle.strip.specs.Edges.{Edges}
+
+open-short : (s : Setup) (l : Lists) (store : List Float) (counts : List ℕ) → length store ≡ 49151 → openRefusal (rateOf 44100) s l store counts ≡ 1
+unfolding rateOf openRefusal longEnough
+open-short s l store counts e = rw e
+
+others-short : (st : State) (own : ℕ) → length (st .store) ≡ 49151 → first (rateOf 44100) st own ≡ 1
+unfolding rateOf first longEnough
+others-short st own e = rw e
+
+last-sample : (x : Float) → okSample x ≡ true → runRefusal (furthest - 1) (x ∷ []) 2 1 ≡ 0
+unfolding runRefusal okOutputs okEnd allOk
+last-sample x e = rw e
+
+pub edges : Edges (rateOf 44100)
+unfolding runRefusal okOutputs okEnd allOk okSample inRange ofBits neg le ofInt
+edges =
+    record { opening = open-short; others = others-short; passes = refl; above = refl; below = refl; last = last-sample; two = λ x y. refl; none = refl }

@@ -1,0 +1,31 @@
+-- Document 01: "Edges: 49,151 is 1; a sample of 1,024 passes, the next f64 is 7; at position 2^32 − 1 one sample passes, two are 6; an empty run at 2^32 passes."
+use Prim.Native.Nat.{ℕ, _-_}
+use mathlib.Core.Path.{_≡_}
+use mathlib.Core.Bool.{true}
+use mathlib.Core.List.{List, [], _∷_}
+use lib.ListN.{length}
+use lib.Ieee.{Float, binary64, ofBits, neg}
+use Rattle.casts.specs.Arithmetic.{whole}
+use Rattle.tape.specs.Tape.{Lists}
+use Rattle.rate.specs.declared.Rate.{Rate}
+use Rattle.strip.specs.declared.Setup.{Setup}
+use Rattle.strip.specs.Refusals.{furthest, okSample, runRefusal, openRefusal}
+use Rattle.strip.specs.Calls.{State, first}
+
+-- the f64 after 1,024
+abbrev pub past : Float
+past = ofBits binary64 0x4090_0000_0000_0001
+
+pub record Edges (r : Rate) : Type 0 where
+  -- "49,151 is 1": of every call, whatever else is wrong
+  pub opening : (s : Setup) (l : Lists) (store : List Float) (counts : List ℕ) → length store ≡ 49151 → openRefusal r s l store counts ≡ 1
+  pub others : (st : State) (own : ℕ) → length (st .store) ≡ 49151 → first r st own ≡ 1
+  -- "a sample of 1,024 passes, the next f64 is 7", on either side
+  pub passes : runRefusal 0 (whole 1024 ∷ neg (whole 1024) ∷ []) 4 2 ≡ 0
+  pub above : runRefusal 0 (past ∷ []) 2 1 ≡ 7
+  pub below : runRefusal 0 (neg past ∷ []) 2 1 ≡ 7
+  -- "at position 2^32 − 1 one sample passes, two are 6"
+  pub last : (x : Float) → okSample x ≡ true → runRefusal (furthest - 1) (x ∷ []) 2 1 ≡ 0
+  pub two : (x y : Float) → runRefusal (furthest - 1) (x ∷ y ∷ []) 4 2 ≡ 6
+  -- "an empty run at 2^32 passes"
+  pub none : runRefusal furthest [] 0 0 ≡ 0
