@@ -22,7 +22,8 @@ use Rattle.strip.proofs.Opening.{passed}
 use Rattle.strip.proofs.Joined.{run-room}
 use Rattle.refusals.specs.Pieces.{stripFormed}
 use Rattle.refusals.proofs.Numbers.{fine, first-is, both, formed-apart, few-points}
-use Rattle.part.specs.Run.{went, Runs, RanAll, ranAll, allRan}
+use Rattle.blocks.specs.Run.{Runs, RanAll, ranAll, allRan}
+use Rattle.part.specs.Pieces.{went}
 
 module _ (r : Rate) (st : State) (k : ℕ) (e : k ≡ first r st 0) where
   pub runs : RateUsable r → k ≡ 0 → Runs r st

@@ -1,3 +1,2 @@
--- Whole effects of open and of its pieces as one value.
+-- Whole effects of the calls and of their pieces.
 pub mod Pieces
-pub mod Run

@@ -1,4 +1,4 @@
--- Whole effects as one value.
+-- Whole effects of the calls and of their pieces, each as one value.
 use Prim.Native.Nat.{ℕ, _+_}
 use mathlib.Core.List.{List, _++_}
 use lib.ListN.{length, take, drop, replicate}
@@ -16,11 +16,16 @@ use Rattle.master.specs.Kept.{ceilingFresh}
 use Rattle.strip.specs.declared.Setup.{Setup}
 use Rattle.strip.specs.declared.Strip.{Strip}
 use Rattle.strip.specs.declared.Opened.{Opened}
-use Rattle.strip.specs.Calls.{OpenDone}
+use Rattle.strip.specs.declared.Outcome.{Outcome}
+use Rattle.strip.specs.Calls.{OpenDone, RunDone}
 
 -- open's whole effect
 abbrev pub opened : Opened → List Float → List ℕ → OpenDone
 opened answer store counts = record { answer = answer; store = store; counts = counts }
+
+-- run's whole effect
+abbrev pub went : Outcome → List Float → List ℕ → List Float → List ℕ → RunDone
+went answer store counts frames gains = record { answer = answer; store = store; counts = counts; frames = frames; gains = gains }
 
 -- a list laid at the front of a part
 abbrev pub over : {X : Type 0} → List X → List X → List X

@@ -1,11 +1,10 @@
 // The four calls: open, run, latch, rest. Uses every crate below it; strip has the types and the definitions that the contracts cite.
-// opening.rt has what open lays into the stores, blocks.rt a run's loop over blocks.
+// opening.rt has what open lays into the stores.
 ghost use mathlib.Core.Path.{_≡_};
 ghost use Rattle.rate.specs.Rate.{rateOf, RateUsable};
 ghost use Rattle.strip.specs.Calls.{state, openCall, runCall, latchedStrip, latchCall, restingOn, restCall};
 ghost use Rattle.refusals.specs.Pieces.{listsOf, Sized};
-ghost use Rattle.part.specs.Pieces.{opened};
-ghost use Rattle.part.specs.Run.{went};
+ghost use Rattle.part.specs.Pieces.{opened, went};
 use rate::Rate;
 use strip::Controls;
 use strip::Opened;
@@ -14,7 +13,6 @@ use strip::Rested;
 use strip::Setup;
 use strip::Strip;
 
-mod blocks;
 mod opening;
 
 // ---- open

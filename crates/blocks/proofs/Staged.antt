@@ -28,7 +28,7 @@ use Rattle.strip.specs.declared.Strip.{Strip}
 use Rattle.strip.specs.Calls.{State, state, tapeIn, plateIn, ceilingIn, listsIn, whole, mixedStepOn, stepOn}
 use Rattle.strip.proofs.Parts.{Long, parts-long, is-whole}
 use Rattle.strip.proofs.Chain.{pointsAt, chain-ran, chain-outs}
-use Rattle.part.specs.Run.{Piecewise, tuningOf, RanAll, ranAll, allRan}
+use Rattle.blocks.specs.Run.{Piecewise, tuningOf, RanAll, ranAll, allRan}
 
 abbrev made : State → List Float → List ℕ → RanAll
 made st frames gains = record { end = st; frames = frames; gains = gains }

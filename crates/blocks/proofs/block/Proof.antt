@@ -2,15 +2,15 @@ use mathlib.Core.Path.{_∙_}
 use Prim.Native.Nat.{_-_}
 use lib.ListN.{length, replicate}
 use lib.Ieee.{binary64, ofBits}
-use Rattle.part.proofs.Rooms.{room, mid-put}
+use Rattle.blocks.proofs.Rooms.{room, mid-put}
 use native.Mathlib.Omega.{arith}
 use borrow.Author.Needs.{needs}
-use Rattle.part.proofs.blocks.block.Statement.{statement}
-use Rattle.part.proofs.blocks.block.Tie as tie
-use Rattle.part.proofs.blocks.block.Reads as reads
-use Rattle.part.proofs.blocks.block.Lts as lts
-use Rattle.part.proofs.blocks.copy.Reads as copy-reads
-use Rattle.part.proofs.blocks.stages.Reads as stages-reads
+use Rattle.blocks.proofs.block.Statement.{statement}
+use Rattle.blocks.proofs.block.Tie as tie
+use Rattle.blocks.proofs.block.Reads as reads
+use Rattle.blocks.proofs.block.Lts as lts
+use Rattle.blocks.proofs.copy.Reads as copy-reads
+use Rattle.blocks.proofs.stages.Reads as stages-reads
 
 sub-copy : tie.Need-sub-copy
 sub-copy c = search needs

@@ -1,22 +1,22 @@
 use mathlib.Core.Path.{_≡_}
 use lib.ListN.{length}
 use Rattle.rate.specs.Rate.{tapeSamples, plateSamples}
-use Rattle.part.proofs.Stages.{staged}
+use Rattle.blocks.proofs.Staged.{staged}
 use native.Mathlib.Omega.{arith}
 use mathlib.Core.Path.{_∙_}
-use Rattle.part.proofs.Rooms.{warp-fits, ceiling-sized, ceiling-well}
+use Rattle.blocks.proofs.Rooms.{warp-fits, ceiling-sized, ceiling-well}
 use borrow.Author.Needs.{needs}
-use Rattle.part.proofs.blocks.stages.Statement.{statement}
-use Rattle.part.proofs.blocks.stages.Tie as tie
-use Rattle.part.proofs.blocks.stages.Reads as reads
-use Rattle.part.proofs.blocks.stages.Lts as lts
+use Rattle.blocks.proofs.stages.Statement.{statement}
+use Rattle.blocks.proofs.stages.Tie as tie
+use Rattle.blocks.proofs.stages.Reads as reads
+use Rattle.blocks.proofs.stages.Lts as lts
 use Rattle.master.proofs.block.Reads as block-reads
 use Rattle.refusals.proofs.places.ceiling_at.Reads as ceiling-at-reads
 use Rattle.refusals.proofs.places.plate_at.Reads as plate-at-reads
 use Rattle.refusals.proofs.places.positions_at.Reads as positions-at-reads
 use Rattle.refusals.proofs.places.values_at.Reads as values-at-reads
-use Rattle.part.proofs.blocks.mix.Reads as mix-reads
-use Rattle.part.proofs.blocks.tune.Reads as tune-reads
+use Rattle.blocks.proofs.mix.Reads as mix-reads
+use Rattle.blocks.proofs.tune.Reads as tune-reads
 use Rattle.tape.proofs.tape_block.Reads as tape-block-reads
 
 plate-at-requires : tie.Need-plate-at-requires

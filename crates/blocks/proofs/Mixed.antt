@@ -11,7 +11,7 @@ use Rattle.stream.specs.declared.Frame.{Frame}
 use Rattle.rate.specs.declared.PlateRate.{PlateRate}
 use Rattle.plate.specs.Plate.{PlateIn, plateStepOn}
 use Rattle.strip.specs.Calls.{mixedStepOn}
-use Rattle.part.specs.Run.{added}
+use Rattle.blocks.specs.Run.{added}
 
 pub added-length : (ys ss : List Float) → length ss ≡ length ys → length (added ys ss) ≡ length ys
 unfolding added

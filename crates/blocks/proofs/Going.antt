@@ -36,7 +36,7 @@ use Rattle.strip.specs.Calls.{State, state, tapeIn, plateIn, ceilingIn, listsIn
 use Rattle.strip.proofs.Parts.{Long, tape-of, plate-of, ceiling-of, parts-long}
 use Rattle.strip.proofs.Sizes.{plate-sized, samples-sized}
 use Rattle.strip.proofs.Sizes as sizes
-use Rattle.part.specs.Run.{Runs, RanAll, allRan}
+use Rattle.blocks.specs.Run.{Runs, RanAll, allRan}
 
 -- ---- a sample leaves a strip that can run on
 

@@ -4,14 +4,14 @@ use lib.Ieee.{nan, Float}
 use lib.ListN.{length, getD}
 use mathlib.Core.Path.{_≡_, sym, ap, _∙_}
 use Rattle.casts.specs.Arithmetic.{_⊕_}
-use Rattle.part.proofs.Mix.{added-length, added-at}
-use Rattle.part.specs.Run.{added}
+use Rattle.blocks.proofs.Mixed.{added-length, added-at}
+use Rattle.blocks.specs.Run.{added}
 use Rattle.stage.proofs.Loop.{Wrote, Ahead, wrote-start, wrote-turn, wrote-done, ahead-start, ahead-turn, ahead-read}
 use borrow.Author.Needs.{needs}
-use Rattle.part.proofs.blocks.add.Statement.{statement}
-use Rattle.part.proofs.blocks.add.Tie as tie
-use Rattle.part.proofs.blocks.add.Reads as reads
-use Rattle.part.proofs.blocks.add.Lts as lts
+use Rattle.blocks.proofs.add.Statement.{statement}
+use Rattle.blocks.proofs.add.Tie as tie
+use Rattle.blocks.proofs.add.Reads as reads
+use Rattle.blocks.proofs.add.Lts as lts
 
 abbrev Inv-loop : tie.InvT-loop
 Inv-loop dry side₀ i₀ side i = (Wrote (added dry side₀) side i × Ahead side₀ side i) × (length side₀ ≡ length dry)

@@ -7,14 +7,14 @@ use Rattle.automation.specs.declared.Piece.{Piece}
 use Rattle.automation.specs.Pieces.{pieceAt}
 use Rattle.automation.proofs.Span.{span-some, span-most}
 use Rattle.strip.specs.Calls.{state, listsIn}
-use Rattle.part.proofs.Going.{Going, go-start, go-turn, go-done}
-use Rattle.part.proofs.blocks.go.Statement.{statement}
-use Rattle.part.proofs.blocks.go.Tie as tie
-use Rattle.part.proofs.blocks.go.Reads as reads
-use Rattle.part.proofs.blocks.go.Lts as lts
-use Rattle.part.proofs.blocks.block.Reads as block-reads
-use Rattle.part.proofs.blocks.least.Reads as least-reads
-use Rattle.part.proofs.blocks.piece.Reads as piece-reads
+use Rattle.blocks.proofs.Going.{Going, go-start, go-turn, go-done}
+use Rattle.blocks.proofs.go.Statement.{statement}
+use Rattle.blocks.proofs.go.Tie as tie
+use Rattle.blocks.proofs.go.Reads as reads
+use Rattle.blocks.proofs.go.Lts as lts
+use Rattle.blocks.proofs.block.Reads as block-reads
+use Rattle.blocks.proofs.least.Reads as least-reads
+use Rattle.blocks.proofs.piece.Reads as piece-reads
 
 abbrev Inv-loop : tie.InvT-loop
 Inv-loop rate samples drums frames₀ gains₀ store₀ counts₀ strip₀ i₀ frames gains store counts strip i =

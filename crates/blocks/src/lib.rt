@@ -1,4 +1,5 @@
 // A run: blocks of samples through the lane, the plate and the ceiling to frames, each stage on its own parts of the stores.
+// Uses the stages, strip for its types and definitions, and refusals for the places of the parts.
 ghost use mathlib.Core.Path.{_≡_};
 ghost use mathlib.Core.List.{map};
 ghost use Prim.Native.Nat.{_+_, _*_, _<_, _≤_};
@@ -15,7 +16,7 @@ ghost use Rattle.plate.specs.Plate.{plateOn, partOf};
 ghost use Rattle.tape.specs.Kept.{tuned};
 ghost use Rattle.master.specs.Kept.{framesOut, countsOut};
 ghost use Rattle.strip.specs.Calls.{state, listsIn, mixedStepOn, stepOn};
-ghost use Rattle.part.specs.Run.{added, Runs, Piecewise, Outputs, tuningOf, pieceOf, ranAll, allRan};
+ghost use Rattle.blocks.specs.Run.{added, Runs, Piecewise, Outputs, tuningOf, pieceOf, ranAll, allRan};
 use automation::Piece;
 use automation::Tuning;
 use plate::Plate;

@@ -1,15 +1,15 @@
 use native.Mathlib.Omega.{arith}
 use mathlib.Core.Path.{sym, ap, _∙_}
 use Rattle.plate.specs.Plate.{plateOn}
-use Rattle.part.specs.Run.{added}
-use Rattle.part.proofs.Mix.{mixed-ran, mixed-left, mixed-right}
+use Rattle.blocks.specs.Run.{added}
+use Rattle.blocks.proofs.Mixed.{mixed-ran, mixed-left, mixed-right}
 use borrow.Author.Needs.{needs}
-use Rattle.part.proofs.blocks.mix.Statement.{statement}
-use Rattle.part.proofs.blocks.mix.Tie as tie
-use Rattle.part.proofs.blocks.mix.Reads as reads
-use Rattle.part.proofs.blocks.mix.Lts as lts
-use Rattle.part.proofs.blocks.add.Reads as add-reads
-use Rattle.part.proofs.blocks.send.Reads as send-reads
+use Rattle.blocks.proofs.mix.Statement.{statement}
+use Rattle.blocks.proofs.mix.Tie as tie
+use Rattle.blocks.proofs.mix.Reads as reads
+use Rattle.blocks.proofs.mix.Lts as lts
+use Rattle.blocks.proofs.add.Reads as add-reads
+use Rattle.blocks.proofs.send.Reads as send-reads
 use Rattle.plate.proofs.block.Reads as block-reads
 
 send-requires : tie.Need-send-requires

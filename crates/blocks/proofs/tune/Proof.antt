@@ -1,8 +1,8 @@
 use borrow.Author.Needs.{needs}
-use Rattle.part.proofs.blocks.tune.Statement.{statement}
-use Rattle.part.proofs.blocks.tune.Tie as tie
-use Rattle.part.proofs.blocks.tune.Reads as reads
-use Rattle.part.proofs.blocks.tune.Lts as lts
+use Rattle.blocks.proofs.tune.Statement.{statement}
+use Rattle.blocks.proofs.tune.Tie as tie
+use Rattle.blocks.proofs.tune.Reads as reads
+use Rattle.blocks.proofs.tune.Lts as lts
 use Rattle.biquad.proofs.Lowpass.retuned.Reads as retuned-reads
 
 retuned-requires : tie.Need-retuned-requires

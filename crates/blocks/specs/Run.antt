@@ -17,12 +17,7 @@ use Rattle.duck.specs.Cursors.{duckOn, Within}
 use Rattle.master.specs.Kept.{framesOut, countsOut}
 use Rattle.master.specs.WellFormed.{wellFormed}
 use Rattle.strip.specs.declared.Strip.{Strip}
-use Rattle.strip.specs.declared.Outcome.{Outcome}
-use Rattle.strip.specs.Calls.{State, RunDone, state, tapeIn, ceilingIn, listsIn, stepOn}
-
--- run's whole effect
-abbrev pub went : Outcome → List Float → List ℕ → List Float → List ℕ → RunDone
-went answer store counts frames gains = record { answer = answer; store = store; counts = counts; frames = frames; gains = gains }
+use Rattle.strip.specs.Calls.{State, state, tapeIn, ceilingIn, listsIn, stepOn}
 
 -- two lists added element by element
 unfoldable pub added : List Float → List Float → List Float

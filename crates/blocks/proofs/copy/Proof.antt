@@ -4,10 +4,10 @@ use Prim.Native.Nat.{_-_}
 use lib.ListN.{length, length-set}
 use lib.Ieee.{nan}
 use Rattle.stage.proofs.Loop.{Wrote, wrote-start, wrote-turn, wrote-done}
-use Rattle.part.proofs.blocks.copy.Statement.{statement}
-use Rattle.part.proofs.blocks.copy.Tie as tie
-use Rattle.part.proofs.blocks.copy.Reads as reads
-use Rattle.part.proofs.blocks.copy.Lts as lts
+use Rattle.blocks.proofs.copy.Statement.{statement}
+use Rattle.blocks.proofs.copy.Tie as tie
+use Rattle.blocks.proofs.copy.Reads as reads
+use Rattle.blocks.proofs.copy.Lts as lts
 
 abbrev Inv-loop : tie.InvT-loop
 Inv-loop samples block₀ i₀ block i = Wrote samples block i × (length block ≡ length samples)

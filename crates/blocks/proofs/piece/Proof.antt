@@ -2,10 +2,10 @@ use native.Mathlib.Omega.{arith}
 use mathlib.Core.Path.{_≡_}
 use Prim.Native.Nat.{_+_, _-_}
 use borrow.Author.Needs.{needs}
-use Rattle.part.proofs.blocks.piece.Statement.{statement}
-use Rattle.part.proofs.blocks.piece.Tie as tie
-use Rattle.part.proofs.blocks.piece.Reads as reads
-use Rattle.part.proofs.blocks.piece.Lts as lts
+use Rattle.blocks.proofs.piece.Statement.{statement}
+use Rattle.blocks.proofs.piece.Tie as tie
+use Rattle.blocks.proofs.piece.Reads as reads
+use Rattle.blocks.proofs.piece.Lts as lts
 use Rattle.automation.proofs.piece_at.Reads as piece-at-reads
 use Rattle.refusals.proofs.places.positions_at.Reads as positions-at-reads
 use Rattle.refusals.proofs.places.values_at.Reads as values-at-reads

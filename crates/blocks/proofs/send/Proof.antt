@@ -7,10 +7,10 @@ use mathlib.Core.List.{map}
 use Rattle.casts.specs.Arithmetic.{_⊗_}
 use Rattle.stage.proofs.Loop.{Wrote, wrote-start, wrote-turn, wrote-done}
 use borrow.Author.Needs.{needs}
-use Rattle.part.proofs.blocks.send.Statement.{statement}
-use Rattle.part.proofs.blocks.send.Tie as tie
-use Rattle.part.proofs.blocks.send.Reads as reads
-use Rattle.part.proofs.blocks.send.Lts as lts
+use Rattle.blocks.proofs.send.Statement.{statement}
+use Rattle.blocks.proofs.send.Tie as tie
+use Rattle.blocks.proofs.send.Reads as reads
+use Rattle.blocks.proofs.send.Lts as lts
 
 abbrev Inv-loop : tie.InvT-loop
 Inv-loop dry sent₀ level i₀ sent i = Wrote (map (λ y. y ⊗ level) dry) sent i × (length sent ≡ length dry)

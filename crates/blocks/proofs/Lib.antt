@@ -1,0 +1,4 @@
+pub mod Mixed
+pub mod Staged
+pub mod Rooms
+pub mod Going
