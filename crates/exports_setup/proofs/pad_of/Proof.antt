@@ -1,8 +1,6 @@
 use Rattle.exports_setup.specs.Setup.{padOf}
 use Rattle.exports_setup.proofs.pad_of.Statement.{statement}
 use Rattle.exports_setup.proofs.pad_of.Tie as tie
-use Rattle.exports_setup.proofs.pad_of.Reads as reads
-use Rattle.exports_setup.proofs.pad_of.Lts as lts
 
 returns : tie.Need-returns
 unfolding padOf

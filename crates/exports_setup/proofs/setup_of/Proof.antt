@@ -2,10 +2,6 @@ use Rattle.exports_setup.specs.Setup.{tapeSetupOf}
 use borrow.Author.Needs.{needs}
 use Rattle.exports_setup.proofs.setup_of.Statement.{statement}
 use Rattle.exports_setup.proofs.setup_of.Tie as tie
-use Rattle.exports_setup.proofs.setup_of.Reads as reads
-use Rattle.exports_setup.proofs.setup_of.Lts as lts
-use Rattle.exports_setup.proofs.pad_of.Reads as pad-of-reads
-use Rattle.exports_setup.proofs.tone_of.Reads as tone-of-reads
 
 element-copy-out-tone-of : tie.Need-element-copy-out-tone-of
 element-copy-out-tone-of c = search needs

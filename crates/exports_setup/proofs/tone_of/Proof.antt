@@ -2,8 +2,6 @@ use Rattle.exports_setup.specs.Setup.{toneOf}
 use borrow.Author.Needs.{needs}
 use Rattle.exports_setup.proofs.tone_of.Statement.{statement}
 use Rattle.exports_setup.proofs.tone_of.Tie as tie
-use Rattle.exports_setup.proofs.tone_of.Reads as reads
-use Rattle.exports_setup.proofs.tone_of.Lts as lts
 
 element-copy-out-t7 : tie.Need-element-copy-out-t7
 element-copy-out-t7 c = search needs

@@ -2,9 +2,6 @@ use Rattle.packing.specs.Packing.{ceilingFrom}
 use borrow.Author.Needs.{needs}
 use Rattle.packing.proofs.ceiling_from.Statement.{statement}
 use Rattle.packing.proofs.ceiling_from.Tie as tie
-use Rattle.packing.proofs.ceiling_from.Reads as reads
-use Rattle.packing.proofs.ceiling_from.Lts as lts
-use Rattle.packing.proofs.size_of.Reads as size-of-reads
 
 shared-slice-read-t4 : tie.Need-shared-slice-read-t4
 shared-slice-read-t4 c = search needs

@@ -3,9 +3,6 @@ use Rattle.refusals.proofs.Checks.{passes, fails}
 use borrow.Author.Needs.{needs}
 use Rattle.packing.proofs.fixed_fits.Statement.{statement}
 use Rattle.packing.proofs.fixed_fits.Tie as tie
-use Rattle.packing.proofs.fixed_fits.Reads as reads
-use Rattle.packing.proofs.fixed_fits.Lts as lts
-use Rattle.packing.proofs.is_nought.Reads as is-nought-reads
 
 shared-slice-read-is-nought : tie.Need-shared-slice-read-is-nought
 shared-slice-read-is-nought c = search needs

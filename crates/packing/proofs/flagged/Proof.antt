@@ -1,8 +1,6 @@
 use Rattle.packing.specs.Packing.{flagged}
 use Rattle.packing.proofs.flagged.Statement.{statement}
 use Rattle.packing.proofs.flagged.Tie as tie
-use Rattle.packing.proofs.flagged.Reads as reads
-use Rattle.packing.proofs.flagged.Lts as lts
 
 returns : tie.Need-returns
 unfolding flagged

@@ -3,9 +3,6 @@ use Rattle.refusals.proofs.Checks.{passes, fails}
 use borrow.Author.Needs.{needs}
 use Rattle.packing.proofs.graded_fits.Statement.{statement}
 use Rattle.packing.proofs.graded_fits.Tie as tie
-use Rattle.packing.proofs.graded_fits.Reads as reads
-use Rattle.packing.proofs.graded_fits.Lts as lts
-use Rattle.packing.proofs.is_short.Reads as is-short-reads
 
 shared-slice-read-is-short : tie.Need-shared-slice-read-is-short
 shared-slice-read-is-short c = search needs

@@ -2,9 +2,6 @@ use Rattle.packing.specs.Packing.{isNought}
 use borrow.Author.Needs.{needs}
 use Rattle.packing.proofs.is_nought.Statement.{statement}
 use Rattle.packing.proofs.is_nought.Tie as tie
-use Rattle.packing.proofs.is_nought.Reads as reads
-use Rattle.packing.proofs.is_nought.Lts as lts
-use Rattle.casts.proofs.bits_of_f64.Reads as bits-of-f64-reads
 
 bits-of-f64-requires : tie.Need-bits-of-f64-requires
 bits-of-f64-requires c κs = search needs

@@ -2,11 +2,6 @@ use Rattle.packing.specs.Packing.{isShort}
 use borrow.Author.Needs.{needs}
 use Rattle.packing.proofs.is_short.Statement.{statement}
 use Rattle.packing.proofs.is_short.Tie as tie
-use Rattle.packing.proofs.is_short.Reads as reads
-use Rattle.packing.proofs.is_short.Lts as lts
-use Rattle.casts.proofs.bits_of_f64.Reads as bits-of-f64-reads
-use Rattle.casts.proofs.narrow.Reads as narrow-reads
-use Rattle.casts.proofs.widen.Reads as widen-reads
 
 narrow-requires : tie.Need-narrow-requires
 narrow-requires c κs = search needs

@@ -2,9 +2,6 @@ use Rattle.packing.specs.Packing.{lowpassFrom}
 use borrow.Author.Needs.{needs}
 use Rattle.packing.proofs.lowpass_from.Statement.{statement}
 use Rattle.packing.proofs.lowpass_from.Tie as tie
-use Rattle.packing.proofs.lowpass_from.Reads as reads
-use Rattle.packing.proofs.lowpass_from.Lts as lts
-use Rattle.packing.proofs.section_from.Reads as section-from-reads
 
 section-from-requires : tie.Need-section-from-requires
 section-from-requires c κs = search needs

@@ -3,11 +3,6 @@ use Rattle.packing.specs.Packing.{packedNumbers}
 use borrow.Author.Needs.{needs}
 use Rattle.packing.proofs.numbers_of.Statement.{statement}
 use Rattle.packing.proofs.numbers_of.Tie as tie
-use Rattle.packing.proofs.numbers_of.Reads as reads
-use Rattle.packing.proofs.numbers_of.Lts as lts
-use Rattle.casts.proofs.widen.Reads as widen-reads
-use Rattle.packing.proofs.pad_numbers.Reads as pad-numbers-reads
-use Rattle.packing.proofs.tone_numbers.Reads as tone-numbers-reads
 
 tone-numbers-requires : tie.Need-tone-numbers-requires
 tone-numbers-requires c κs = search needs

@@ -3,9 +3,6 @@ use borrow.Author.Tests.{eq-eqb, ne-eqb}
 use borrow.Author.Needs.{needs}
 use Rattle.packing.proofs.pad_at.Statement.{statement}
 use Rattle.packing.proofs.pad_at.Tie as tie
-use Rattle.packing.proofs.pad_at.Reads as reads
-use Rattle.packing.proofs.pad_at.Lts as lts
-use Rattle.casts.proofs.narrow.Reads as narrow-reads
 
 returns : tie.Need-returns
 unfolding padAt

@@ -3,10 +3,6 @@ use borrow.Author.Tests.{eq-eqb, ne-eqb}
 use borrow.Author.Needs.{needs}
 use Rattle.packing.proofs.pad_fits.Statement.{statement}
 use Rattle.packing.proofs.pad_fits.Tie as tie
-use Rattle.packing.proofs.pad_fits.Reads as reads
-use Rattle.packing.proofs.pad_fits.Lts as lts
-use Rattle.packing.proofs.swell_fits.Reads as swell-fits-reads
-use Rattle.packing.proofs.without_fits.Reads as without-fits-reads
 
 without-fits-requires : tie.Need-without-fits-requires
 without-fits-requires c κs = search needs

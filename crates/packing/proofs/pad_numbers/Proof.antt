@@ -3,9 +3,6 @@ use mathlib.Core.Path.{sym, ap, _∙_}
 use borrow.Author.Needs.{needs}
 use Rattle.packing.proofs.pad_numbers.Statement.{statement}
 use Rattle.packing.proofs.pad_numbers.Tie as tie
-use Rattle.packing.proofs.pad_numbers.Reads as reads
-use Rattle.packing.proofs.pad_numbers.Lts as lts
-use Rattle.casts.proofs.widen.Reads as widen-reads
 
 enum-told : tie.Need-enum-told
 enum-told c = search needs

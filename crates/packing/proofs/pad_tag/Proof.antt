@@ -2,8 +2,6 @@ use Rattle.packing.specs.Packing.{padTag}
 use borrow.Author.Needs.{needs}
 use Rattle.packing.proofs.pad_tag.Statement.{statement}
 use Rattle.packing.proofs.pad_tag.Tie as tie
-use Rattle.packing.proofs.pad_tag.Reads as reads
-use Rattle.packing.proofs.pad_tag.Lts as lts
 
 enum-told : tie.Need-enum-told
 enum-told c = search needs

@@ -2,10 +2,6 @@ use Rattle.packing.specs.Packing.{plateFrom}
 use borrow.Author.Needs.{needs}
 use Rattle.packing.proofs.plate_from.Statement.{statement}
 use Rattle.packing.proofs.plate_from.Tie as tie
-use Rattle.packing.proofs.plate_from.Reads as reads
-use Rattle.packing.proofs.plate_from.Lts as lts
-use Rattle.packing.proofs.one_pole_from.Reads as one-pole-from-reads
-use Rattle.packing.proofs.section_from.Reads as section-from-reads
 
 one-pole-from-requires : tie.Need-one-pole-from-requires
 one-pole-from-requires c κs = search needs

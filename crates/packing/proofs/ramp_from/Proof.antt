@@ -2,9 +2,6 @@ use Rattle.packing.specs.Packing.{rampFrom}
 use borrow.Author.Needs.{needs}
 use Rattle.packing.proofs.ramp_from.Statement.{statement}
 use Rattle.packing.proofs.ramp_from.Tie as tie
-use Rattle.packing.proofs.ramp_from.Reads as reads
-use Rattle.packing.proofs.ramp_from.Lts as lts
-use Rattle.packing.proofs.shape_of.Reads as shape-of-reads
 
 add-shape-of : tie.Need-add-shape-of
 add-shape-of c = search needs

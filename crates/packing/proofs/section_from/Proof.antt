@@ -3,8 +3,6 @@ use mathlib.Core.Path.{refl}
 use borrow.Author.Needs.{needs}
 use Rattle.packing.proofs.section_from.Statement.{statement}
 use Rattle.packing.proofs.section_from.Tie as tie
-use Rattle.packing.proofs.section_from.Reads as reads
-use Rattle.packing.proofs.section_from.Lts as lts
 
 mul-t3 : tie.Need-mul-t3
 mul-t3 c = search needs

@@ -2,12 +2,6 @@ use Rattle.packing.specs.Packing.{setupFrom}
 use borrow.Author.Needs.{needs}
 use Rattle.packing.proofs.setup_from.Statement.{statement}
 use Rattle.packing.proofs.setup_from.Tie as tie
-use Rattle.packing.proofs.setup_from.Reads as reads
-use Rattle.packing.proofs.setup_from.Lts as lts
-use Rattle.casts.proofs.narrow.Reads as narrow-reads
-use Rattle.packing.proofs.flag_of.Reads as flag-of-reads
-use Rattle.packing.proofs.pad_at.Reads as pad-at-reads
-use Rattle.packing.proofs.tone_at.Reads as tone-at-reads
 
 shared-slice-read-tone-at : tie.Need-shared-slice-read-tone-at
 shared-slice-read-tone-at c = search needs

@@ -2,8 +2,6 @@ use Rattle.packing.specs.Packing.{shapeOf}
 use borrow.Author.Tests.{eq-eqb, ne-eqb}
 use Rattle.packing.proofs.shape_of.Statement.{statement}
 use Rattle.packing.proofs.shape_of.Tie as tie
-use Rattle.packing.proofs.shape_of.Reads as reads
-use Rattle.packing.proofs.shape_of.Lts as lts
 
 returns : tie.Need-returns
 unfolding shapeOf

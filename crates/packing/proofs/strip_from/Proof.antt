@@ -3,14 +3,6 @@ use native.Mathlib.Omega.{arith}
 use borrow.Author.Needs.{needs}
 use Rattle.packing.proofs.strip_from.Statement.{statement}
 use Rattle.packing.proofs.strip_from.Tie as tie
-use Rattle.packing.proofs.strip_from.Reads as reads
-use Rattle.packing.proofs.strip_from.Lts as lts
-use Rattle.packing.proofs.ceiling_from.Reads as ceiling-from-reads
-use Rattle.packing.proofs.plate_from.Reads as plate-from-reads
-use Rattle.packing.proofs.ramp_from.Reads as ramp-from-reads
-use Rattle.packing.proofs.setup_from.Reads as setup-from-reads
-use Rattle.packing.proofs.size_of.Reads as size-of-reads
-use Rattle.packing.proofs.tape_from.Reads as tape-from-reads
 
 setup-from-requires : tie.Need-setup-from-requires
 setup-from-requires c κs = search needs

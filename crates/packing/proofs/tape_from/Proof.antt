@@ -2,12 +2,6 @@ use Rattle.packing.specs.Packing.{tapeFrom}
 use borrow.Author.Needs.{needs}
 use Rattle.packing.proofs.tape_from.Statement.{statement}
 use Rattle.packing.proofs.tape_from.Tie as tie
-use Rattle.packing.proofs.tape_from.Reads as reads
-use Rattle.packing.proofs.tape_from.Lts as lts
-use Rattle.packing.proofs.lowpass_from.Reads as lowpass-from-reads
-use Rattle.packing.proofs.one_pole_from.Reads as one-pole-from-reads
-use Rattle.packing.proofs.section_from.Reads as section-from-reads
-use Rattle.packing.proofs.size_of.Reads as size-of-reads
 
 lowpass-from-requires : tie.Need-lowpass-from-requires
 lowpass-from-requires c κs = search needs

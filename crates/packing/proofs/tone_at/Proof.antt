@@ -3,9 +3,6 @@ use borrow.Author.Tests.{eq-eqb, ne-eqb}
 use borrow.Author.Needs.{needs}
 use Rattle.packing.proofs.tone_at.Statement.{statement}
 use Rattle.packing.proofs.tone_at.Tie as tie
-use Rattle.packing.proofs.tone_at.Reads as reads
-use Rattle.packing.proofs.tone_at.Lts as lts
-use Rattle.casts.proofs.narrow.Reads as narrow-reads
 
 shared-slice-read-narrow : tie.Need-shared-slice-read-narrow
 shared-slice-read-narrow c = search needs

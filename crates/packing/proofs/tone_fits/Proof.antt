@@ -3,10 +3,6 @@ use borrow.Author.Tests.{eq-eqb, ne-eqb}
 use borrow.Author.Needs.{needs}
 use Rattle.packing.proofs.tone_fits.Statement.{statement}
 use Rattle.packing.proofs.tone_fits.Tie as tie
-use Rattle.packing.proofs.tone_fits.Reads as reads
-use Rattle.packing.proofs.tone_fits.Lts as lts
-use Rattle.packing.proofs.fixed_fits.Reads as fixed-fits-reads
-use Rattle.packing.proofs.graded_fits.Reads as graded-fits-reads
 
 fixed-fits-requires : tie.Need-fixed-fits-requires
 fixed-fits-requires c κs = search needs

@@ -3,9 +3,6 @@ use mathlib.Core.Path.{sym, ap, _∙_}
 use borrow.Author.Needs.{needs}
 use Rattle.packing.proofs.tone_numbers.Statement.{statement}
 use Rattle.packing.proofs.tone_numbers.Tie as tie
-use Rattle.packing.proofs.tone_numbers.Reads as reads
-use Rattle.packing.proofs.tone_numbers.Lts as lts
-use Rattle.casts.proofs.widen.Reads as widen-reads
 
 enum-known-tone : tie.Need-enum-known-tone
 enum-known-tone c = search needs

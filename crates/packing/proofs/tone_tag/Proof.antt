@@ -3,8 +3,6 @@ use mathlib.Core.Path.{sym, ap, _∙_}
 use borrow.Author.Needs.{needs}
 use Rattle.packing.proofs.tone_tag.Statement.{statement}
 use Rattle.packing.proofs.tone_tag.Tie as tie
-use Rattle.packing.proofs.tone_tag.Reads as reads
-use Rattle.packing.proofs.tone_tag.Lts as lts
 
 enum-told : tie.Need-enum-told
 enum-told c = search needs

@@ -4,10 +4,6 @@ use Rattle.refusals.proofs.Checks.{passes, fails}
 use borrow.Author.Needs.{needs}
 use Rattle.packing.proofs.unpack.Statement.{statement}
 use Rattle.packing.proofs.unpack.Tie as tie
-use Rattle.packing.proofs.unpack.Reads as reads
-use Rattle.packing.proofs.unpack.Lts as lts
-use Rattle.packing.proofs.strip_from.Reads as strip-from-reads
-use Rattle.packing.proofs.unpackable.Reads as unpackable-reads
 
 unpackable-requires : tie.Need-unpackable-requires
 unpackable-requires c κs = search needs

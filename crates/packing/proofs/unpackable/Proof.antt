@@ -4,12 +4,6 @@ use Rattle.refusals.proofs.Checks.{passes, fails}
 use borrow.Author.Needs.{needs}
 use Rattle.packing.proofs.unpackable.Statement.{statement}
 use Rattle.packing.proofs.unpackable.Tie as tie
-use Rattle.packing.proofs.unpackable.Reads as reads
-use Rattle.packing.proofs.unpackable.Lts as lts
-use Rattle.packing.proofs.pad_fits.Reads as pad-fits-reads
-use Rattle.packing.proofs.shorts_fit.Reads as shorts-fit-reads
-use Rattle.packing.proofs.tone_fits.Reads as tone-fits-reads
-use Rattle.packing.proofs.words_fit.Reads as words-fit-reads
 
 returns : tie.Need-returns
 unfolding unpackable

@@ -3,8 +3,6 @@ use borrow.Author.Tests.{le-leb, lt-leb}
 use borrow.Author.Needs.{needs}
 use Rattle.packing.proofs.words_fit.Statement.{statement}
 use Rattle.packing.proofs.words_fit.Tie as tie
-use Rattle.packing.proofs.words_fit.Reads as reads
-use Rattle.packing.proofs.words_fit.Lts as lts
 
 shared-slice-read-if1 : tie.Need-shared-slice-read-if1
 shared-slice-read-if1 c = search needs

@@ -2,13 +2,6 @@ use Rattle.packing.specs.Packing.{packedWords}
 use borrow.Author.Needs.{needs}
 use Rattle.packing.proofs.words_of.Statement.{statement}
 use Rattle.packing.proofs.words_of.Tie as tie
-use Rattle.packing.proofs.words_of.Reads as reads
-use Rattle.packing.proofs.words_of.Lts as lts
-use Rattle.packing.proofs.flagged.Reads as flagged-reads
-use Rattle.packing.proofs.pad_tag.Reads as pad-tag-reads
-use Rattle.packing.proofs.shape_tag.Reads as shape-tag-reads
-use Rattle.packing.proofs.tone_tag.Reads as tone-tag-reads
-use Rattle.packing.proofs.word_of.Reads as word-of-reads
 
 tone-tag-requires : tie.Need-tone-tag-requires
 tone-tag-requires c κs = search needs
