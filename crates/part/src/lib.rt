@@ -1,5 +1,5 @@
 // The four calls: open, run, latch, rest. Uses every crate below it; strip has the types and the definitions that the contracts cite.
-// opening.rt has what open lays into the stores.
+// opening.rt has what open lays into the stores, laying.rt the two loops that lay a list.
 ghost use mathlib.Core.Path.{_≡_};
 ghost use Rattle.rate.specs.Rate.{rateOf, RateUsable};
 ghost use Rattle.strip.specs.Calls.{state, openCall, runCall, latchedStrip, latchCall, restingOn, restCall};
@@ -13,6 +13,7 @@ use strip::Rested;
 use strip::Setup;
 use strip::Strip;
 
+pub mod laying;
 mod opening;
 
 // ---- open
