@@ -1,10 +1,10 @@
-//! The cost of the part's tape, plate and ceiling beside the Rust's: bench [ROUNDS]. For each stage and length of call a
-//! line: name, samples a call, the part's time over the Rust's. Both play one signal by turns; each time is the least of
-//! the rounds.
+//! The cost of the part beside the Rust's: bench [ROUNDS]. Both play one signal by turns. A line is a name, the samples of a
+//! call, and the part's time over the Rust's: the least, the middle and the most of the rounds' ratios. A strip's line has the same
+//! once more with the calls' own cost (as many runs of no sample, which refusal 4 checks like any other) taken off.
 #![allow(dead_code)]
 
 use std::hint::black_box;
-use std::time::{Duration, Instant};
+use std::time::Instant;
 
 mod compare;
 mod library;
@@ -16,6 +16,8 @@ mod shrink;
 mod signal;
 mod strip;
 
+use library::Memory;
+use oracle::Controls;
 use oracle::stream::master::Ceiling;
 use oracle::stream::plate::Plate;
 use part::Call;
@@ -25,23 +27,28 @@ use setup::{RATE, Setup};
 /// Two seconds.
 const SAMPLES: usize = 88_200;
 
-fn timed(run: &mut dyn FnMut()) -> Duration {
+/// Samples from one latch to the next.
+const LATCHED: usize = 4096;
+
+fn timed(run: &mut dyn FnMut()) -> f64 {
     let start = Instant::now();
     run();
-    start.elapsed()
+    start.elapsed().as_secs_f64()
+}
+
+/// The least, the middle and the most.
+fn spread(mut ratios: Vec<f64>) -> String {
+    ratios.sort_by(f64::total_cmp);
+    format!("{:.2}\t{:.2}\t{:.2}", ratios[0], ratios[ratios.len() / 2], ratios[ratios.len() - 1])
 }
 
 /// Both by turns.
 fn line(name: &str, size: usize, rounds: u64, ours: &mut dyn FnMut(), rust: &mut dyn FnMut()) {
-    let mut least = [Duration::MAX; 2];
-    for _ in 0..rounds {
-        least[0] = least[0].min(timed(ours));
-        least[1] = least[1].min(timed(rust));
-    }
-    println!("{name}\t{size}\t{:.2}", least[0].as_secs_f64() / least[1].as_secs_f64());
+    let ratios = (0..rounds).map(|_| timed(ours) / timed(rust)).collect();
+    println!("{name}\t{size}\t{}", spread(ratios));
 }
 
-/// A lane that has everything: graded, swelling, darkened, swept and ducked.
+/// A lane that has everything: graded, swelling, darkened, ducked and, where it sweeps, swept.
 fn lane(sweeping: bool) -> Setup {
     Setup {
         graded: true,
@@ -59,6 +66,16 @@ fn lane(sweeping: bool) -> Setup {
         values: if sweeping { vec![0.2, 0.9] } else { Vec::new() },
         kicks: (0..20).map(|k| k * 22_050 / 5).collect(),
     }
+}
+
+/// One corner, no pad, no duck.
+fn plain() -> Setup {
+    Setup { graded: false, pad: None, darkens: false, ducked: false, kicks: Vec::new(), ..lane(false) }
+}
+
+/// As many kicks as a strip takes, all within the reach of one.
+fn crowded() -> Setup {
+    Setup { kicks: (0..1024).map(|k| 8 * k).collect(), ..lane(false) }
 }
 
 fn tape(name: &str, setup: &Setup, x: &[f64], size: usize, rounds: u64) {
@@ -127,14 +144,110 @@ fn ceiling(x: &[f64], size: usize, rounds: u64) {
     line("ceiling", size, rounds, &mut ours, &mut rust);
 }
 
+/// What latch number k moves daylight and rain to, so that both are always on their way.
+fn weather(k: usize) -> [f32; 2] {
+    if k % 2 == 0 { [0.9, 0.1] } else { [0.2, 0.8] }
+}
+
+/// The part's strip over the signal; the time is that of its runs and latches.
+fn ours(memory: &mut Memory, setup: &Setup, moving: bool, x: &[f64], size: usize, out: (&mut [f32], &mut [u64])) -> f64 {
+    assert_eq!(memory.whole().open(setup), 0);
+    let (frames, gains) = out;
+    let start = Instant::now();
+    for (i, call) in x.chunks(size).enumerate() {
+        let at = i * size;
+        if moving && at % LATCHED == 0 {
+            memory.whole().latch(weather(at / LATCHED), [LATCHED as u64; 2]);
+        }
+        let end = at + call.len();
+        black_box(memory.whole().run(call, 1, &mut frames[2 * at..2 * end], &mut gains[at..end]));
+    }
+    start.elapsed().as_secs_f64()
+}
+
+/// As many runs of no sample.
+fn empty(memory: &mut Memory, runs: usize) -> f64 {
+    timed(&mut || {
+        for _ in 0..runs {
+            black_box(memory.whole().run(&[], 1, &mut [], &mut []));
+        }
+    })
+}
+
+/// What the Rust's strip works in.
+struct Room {
+    band: Vec<f64>,
+    y: Vec<f64>,
+    sent: Vec<f64>,
+    sides: [Vec<f64>; 2],
+    frames: Vec<[f64; 2]>,
+}
+
+/// The Rust's Tape, Plate and Ceiling joined, over the signal.
+fn theirs(room: &mut Room, setup: &Setup, moving: bool, x: &[f64], size: usize, heard: &mut [f32]) -> f64 {
+    let mut automation = setup.automation();
+    let mut tape = setup.tape(&automation, RATE);
+    let mut plate = Plate::new(RATE);
+    let mut ceiling = Ceiling::new(RATE);
+    let start = Instant::now();
+    for (i, call) in x.chunks(size).enumerate() {
+        let at = i * size;
+        if moving && at % LATCHED == 0 {
+            let [daylight, rain] = weather(at / LATCHED);
+            automation.latch(at, Controls { daylight, rain }, LATCHED, LATCHED);
+        }
+        room.y.clear();
+        room.y.extend_from_slice(call);
+        tape.process(&mut room.y, at, &automation, true, &mut room.band);
+        room.sent.clear();
+        room.sent.extend(room.y.iter().map(|y| y * setup.send));
+        plate.process(&room.sent, &mut room.sides);
+        room.frames.clear();
+        room.frames.extend(room.y.iter().enumerate().map(|(k, y)| [y + room.sides[0][k], y + room.sides[1][k]]));
+        ceiling.limit_heard(&mut room.frames, |_| ());
+        for (out, side) in heard[2 * at..].iter_mut().zip(room.frames.as_flattened()) {
+            *out = ceiling.clamp(*side);
+        }
+    }
+    black_box(&heard);
+    start.elapsed().as_secs_f64()
+}
+
+fn strip(name: &str, setup: &Setup, moving: bool, x: &[f64], size: usize, rounds: u64) {
+    let mut memory = Memory::new(0);
+    let mut room =
+        Room { band: Vec::new(), y: Vec::new(), sent: Vec::new(), sides: [Vec::new(), Vec::new()], frames: Vec::new() };
+    let (mut frames, mut gains) = (vec![0.0f32; 2 * x.len()], vec![0; x.len()]);
+    let mut heard = frames.clone();
+    let (mut whole, mut apart) = (Vec::new(), Vec::new());
+    for _ in 0..rounds {
+        let part = ours(&mut memory, setup, moving, x, size, (&mut frames, &mut gains));
+        let calls = empty(&mut memory, x.len().div_ceil(size));
+        let rust = theirs(&mut room, setup, moving, x, size, &mut heard);
+        whole.push(part / rust);
+        apart.push((part - calls) / rust);
+    }
+    println!("{name}\t{size}\t{}\t{}", spread(whole), spread(apart));
+}
+
 fn main() {
     let rounds = std::env::args().nth(1).and_then(|word| word.parse().ok()).unwrap_or(20);
     let mut rng = Rng::new(1);
     let x: Vec<f64> = (0..SAMPLES).map(|_| rng.between(-1.2, 1.2)).collect();
-    for size in [32, 1024] {
+    println!("name\tcall\tleast\tmiddle\tmost\tleast, middle and most without the calls' own cost");
+    for size in [1, 16, 64, 1024] {
+        strip("everything, moving", &lane(true), true, &x, size, rounds);
+        strip("plain, fixed", &plain(), false, &x, size, rounds);
+        strip("1,024 kicks", &crowded(), false, &x[..8192], size, rounds);
+    }
+    for size in [64, 1024] {
         tape("tape", &lane(false), &x, size, rounds);
         tape("tape swept", &lane(true), &x, size, rounds);
         plate(&x, size, rounds);
         ceiling(&x, size, rounds);
+    }
+    for seconds in [1, 2, 4] {
+        let long: Vec<f64> = x.iter().copied().cycle().take(44_100 * seconds).collect();
+        strip(&format!("everything, {seconds} s"), &lane(true), true, &long, 1024, rounds.min(5));
     }
 }
