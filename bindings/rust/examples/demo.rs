@@ -100,11 +100,27 @@ fn main() -> Result<(), Box<dyn Error>> {
     let loudest = |values: &mut dyn Iterator<Item = f64>| values.fold(0.0, |most: f64, x| most.max(x.abs()));
     let least = heard.gains.iter().copied().min().map_or(1.0, gain);
     let peak = loudest(&mut heard.frames.as_flattened().iter().map(|&x| x.into()));
-    println!("in       {:6.2} s, {} kicks, peak {:.3}", samples.len() as f64 / SECOND, kicks.len(), loudest(&mut samples.iter().copied()));
+    println!(
+        "in       {:6.2} s, {} kicks, peak {:.3}",
+        samples.len() as f64 / SECOND,
+        kicks.len(),
+        loudest(&mut samples.iter().copied())
+    );
     println!("out      {seconds:6.2} s, peak {peak:.4} ({:.2} dB)", db(peak));
-    println!("ceiling  least gain {least:.4} ({:.2} dB), {LATENCY} samples ({:.1} ms) late", db(least), LATENCY as f64 / SECOND * 1e3);
-    println!("rests    at {:.2} s, {:.2} s after the phrase", rested as f64 / SECOND, (rested - samples.len()) as f64 / SECOND);
-    println!("time     {took:.3} s in {calls} calls for the phrase and its tail: {:.0} times real time", seconds / took);
+    println!(
+        "ceiling  least gain {least:.4} ({:.2} dB), {LATENCY} samples ({:.1} ms) late",
+        db(least),
+        LATENCY as f64 / SECOND * 1e3
+    );
+    println!(
+        "rests    at {:.2} s, {:.2} s after the phrase",
+        rested as f64 / SECOND,
+        (rested - samples.len()) as f64 / SECOND
+    );
+    println!(
+        "time     {took:.3} s in {calls} calls for the phrase and its tail: {:.0} times real time",
+        seconds / took
+    );
     fs::write(sound, wav::write(wav::Format::Whole, heard.in_time())?)?;
     fs::write(picture, drawn(&samples, &kicks, &heard, rested))?;
     println!("wrote    {sound} and {picture}");

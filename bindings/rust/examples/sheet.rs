@@ -93,7 +93,8 @@ fn lane(table: &mut String) -> Result<String, Refusal> {
         let tone = Tone::Fixed { corner, drive: 0.1 };
         (format!("corner {corner} Hz"), Setup { tone, ..PLAIN })
     });
-    let rains = [0.0, 0.25, 0.5, 0.75, 1.0].map(|rain| (format!("rain {rain}"), Setup { rain, darkened: true, ..PLAIN }));
+    let rains =
+        [0.0, 0.25, 0.5, 0.75, 1.0].map(|rain| (format!("rain {rain}"), Setup { rain, darkened: true, ..PLAIN }));
     *table += "Level in dB by frequency in Hz:\n\n| |";
     TABLE.iter().for_each(|hz| *table += &format!(" {hz} |"));
     *table += "\n|---|";
@@ -145,19 +146,26 @@ fn plate(figures: &mut String) -> Result<String, Refusal> {
     let first = squares.iter().position(|&square| square > 1e-6 * most).unwrap_or(0) as f64 / SECOND;
     let through: Vec<f64> = dry.frames.iter().map(|frame| 2.0 * f64::from(frame[0]).powi(2)).collect();
     let _ = writeln!(figures, "- first sound of the plate {:.1} ms after the lane's", first * 1e3);
-    let _ = writeln!(figures, "- decay: T60 {:.2} s, by the line through -5 to -35 dB of Schroeder's curve", -60.0 / slope);
-    let _ = writeln!(figures, "- energy of the return at send 1: {:.1} dB beside the lane's own", 10.0 * (all / energy(&through)).log10());
+    let _ =
+        writeln!(figures, "- decay: T60 {:.2} s, by the line through -5 to -35 dB of Schroeder's curve", -60.0 / slope);
+    let _ = writeln!(
+        figures,
+        "- energy of the return at send 1: {:.1} dB beside the lane's own",
+        10.0 * (all / energy(&through)).log10()
+    );
     let _ = writeln!(figures, "- at rest {:.1} s after an impulse of 0.5", rested as f64 / SECOND);
 
     let mut picture = Picture::new(1000.0, 520.0, "The plate's answer to an impulse through the lane, send 1");
     let scale = most.sqrt();
     for (i, name) in ["left, over the largest", "right, over the largest"].into_iter().enumerate() {
         let from = 48.0 + 135.0 * i as f64;
-        let mut panel = picture.panel(from..from + 90.0, Axis::even(0.0..2.0, 0.2, "s"), Axis::even(-1.0..1.0, 0.5, name));
+        let mut panel =
+            picture.panel(from..from + 90.0, Axis::even(0.0..2.0, 0.2, "s"), Axis::even(-1.0..1.0, 0.5, name));
         let values: Vec<f64> = sides[i].iter().map(|value| value / scale).collect();
         panel.envelope(&values, 1.0 / SECOND, COLOURS[0]);
     }
-    let mut panel = picture.panel(325.0..480.0, Axis::even(0.0..2.0, 0.2, "s"), Axis::even(-80.0..0.0, 20.0, "still to come, dB"));
+    let mut panel =
+        picture.panel(325.0..480.0, Axis::even(0.0..2.0, 0.2, "s"), Axis::even(-80.0..0.0, 20.0, "still to come, dB"));
     panel.curve(&decay.iter().copied().take(2 * RATE as usize).step_by(200).collect::<Vec<_>>(), COLOURS[0]);
     panel.key(1, COLOURS[1], &format!("fit: 60 dB in {:.2} s", -60.0 / slope));
     panel.curve(&[(-height / slope, 0.0), ((-80.0 - height) / slope, -80.0)], COLOURS[1]);
@@ -196,7 +204,10 @@ fn ceiling(figures: &mut String) -> Result<String, Refusal> {
     let mut panel = picture.panel(205.0..305.0, time(), Axis::even(-1.0..1.0, 0.5, "delivered"));
     panel.envelope(&output, 1.0 / SECOND, COLOURS[2]);
     panel.key(0, COLOURS[1], "limit");
-    [-1.0, 1.0].map(|sign| sign * f64::from(LIMIT)).into_iter().for_each(|limit| panel.curve(&[(0.05, limit), (0.5, limit)], COLOURS[1]));
+    [-1.0, 1.0]
+        .map(|sign| sign * f64::from(LIMIT))
+        .into_iter()
+        .for_each(|limit| panel.curve(&[(0.05, limit), (0.5, limit)], COLOURS[1]));
     let mut panel = picture.panel(360.0..430.0, time(), Axis::even(-20.0..0.0, 5.0, "gain, dB"));
     panel.curve(&gains.iter().copied().step_by(40).collect::<Vec<_>>(), COLOURS[3]);
     Ok(picture.finish())
@@ -218,9 +229,24 @@ fn main() -> Result<(), Box<dyn Error>> {
     let mut figures = String::new();
     type Measure = fn(&mut String) -> Result<String, Refusal>;
     let measures: [(&str, &str, &str, Measure); 3] = [
-        ("lane", "The lane", "Sines of size 0.01, corner and rain as named, drive 0.1, send 0; wow and flutter go on.", lane),
-        ("plate", "The plate", "An impulse of 0.5, corner 20,000 Hz, drive 0.1: what is heard at send 1 less what is heard at send 0.", plate),
-        ("ceiling", "The ceiling", "A sine of 1 kHz and size 0.1, for 50 ms of size 4; corner 20,000 Hz, drive 0.1, send 0.", ceiling),
+        (
+            "lane",
+            "The lane",
+            "Sines of size 0.01, corner and rain as named, drive 0.1, send 0; wow and flutter go on.",
+            lane,
+        ),
+        (
+            "plate",
+            "The plate",
+            "An impulse of 0.5, corner 20,000 Hz, drive 0.1: what is heard at send 1 less what is heard at send 0.",
+            plate,
+        ),
+        (
+            "ceiling",
+            "The ceiling",
+            "A sine of 1 kHz and size 0.1, for 50 ms of size 4; corner 20,000 Hz, drive 0.1, send 0.",
+            ceiling,
+        ),
     ];
     for (name, title, how, measure) in measures {
         let mut own = String::new();

@@ -15,13 +15,9 @@ fn signal() -> Vec<f64> {
 
 #[test]
 fn the_header_has_these_numbers() {
-    for (name, value) in [
-        ("NUMBERS", NUMBERS),
-        ("WORDS", WORDS),
-        ("STORE", STORE),
-        ("COUNTS", COUNTS),
-        ("LATENCY", LATENCY),
-    ] {
+    for (name, value) in
+        [("NUMBERS", NUMBERS), ("WORDS", WORDS), ("STORE", STORE), ("COUNTS", COUNTS), ("LATENCY", LATENCY)]
+    {
         let found = HEADER.lines().find_map(|line| line.strip_prefix(&format!("#define GOQHARI_{name} ")));
         let number = found.and_then(|rest| rest.split_whitespace().next()).map(|word| word.trim_end_matches('u'));
         assert_eq!(number, Some(&value.to_string()[..]), "{name}");
@@ -47,7 +43,10 @@ fn any_division_gives_the_same() {
     });
     assert!(all.iter().all(|heard| *heard == all[0]));
     let (frames, gains) = &all[0];
-    assert!(frames[..LATENCY].iter().all(|frame| *frame == [0.0; 2]), "nothing is heard before the look-ahead has passed");
+    assert!(
+        frames[..LATENCY].iter().all(|frame| *frame == [0.0; 2]),
+        "nothing is heard before the look-ahead has passed"
+    );
     assert_eq!(gains[0], UNITY);
     assert!(gains.iter().all(|&count| gain(count) <= 1.0) && gains.iter().any(|&count| gain(count) < 0.9));
     let peak = frames.as_flattened().iter().fold(0.0, |most: f32, side| most.max(side.abs()));

@@ -71,12 +71,7 @@ impl Axis {
     pub fn even(ends: Range<f64>, step: f64, name: &str) -> Self {
         let first = (ends.start / step).ceil() as i64;
         let last = (ends.end / step + 1e-9).floor() as i64;
-        Self {
-            ticks: (first..=last).map(|k| k as f64 * step).collect(),
-            ends,
-            by_octaves: false,
-            name: name.into(),
-        }
+        Self { ticks: (first..=last).map(|k| k as f64 * step).collect(), ends, by_octaves: false, name: name.into() }
     }
 
     /// An axis of frequencies.
