@@ -8,9 +8,7 @@
 
 enum { BUFFER = 512 };
 
-/* The strip and what it works in. */
-static double numbers[GOQHARI_NUMBERS], store[GOQHARI_STORE];
-static uint64_t words[GOQHARI_WORDS], counts[GOQHARI_COUNTS];
+static struct goqhari_strip strip;
 
 /* The file that is written. */
 static FILE *out;
@@ -23,7 +21,7 @@ static int failed(const char *why) {
 }
 
 static int refused(uint64_t number) {
-    fprintf(stderr, "process: refusal %d: %s\n", (int)number, goqhari_refusal(number));
+    fprintf(stderr, "process: the strip declines by %d, see enum goqhari_answer\n", (int)number);
     return 1;
 }
 
@@ -32,8 +30,7 @@ static int refused(uint64_t number) {
 static uint64_t played(const double *samples, size_t len) {
     float frames[2 * BUFFER];
     uint64_t gains[BUFFER];
-    uint64_t number = goqhari_run(numbers, GOQHARI_NUMBERS, words, GOQHARI_WORDS, samples, len, 1, frames, 2 * len, gains,
-                                  len, store, GOQHARI_STORE, counts, GOQHARI_COUNTS);
+    uint64_t number = goqhari_strip_run(&strip, samples, len, 1, frames, gains);
     if (number) return number;
     unsigned char bytes[8 * BUFFER];
     size_t filled = 0;
@@ -49,7 +46,7 @@ static uint64_t played(const double *samples, size_t len) {
 /* The samples buffer by buffer, then silence until the strip rests, and as much more as waits in the ceiling. */
 static uint64_t process(const struct wav *wav) {
     double buffer[BUFFER];
-    uint64_t number, rests[1] = {0};
+    uint64_t number, rests;
     for (size_t at = 0; at < wav->count;) {
         size_t len = 0;
         while (len < BUFFER && at < wav->count) buffer[len++] = wav_sample(wav, at++);
@@ -57,10 +54,8 @@ static uint64_t process(const struct wav *wav) {
     }
     memset(buffer, 0, sizeof buffer);
     for (;;) {
-        number = goqhari_rest(numbers, GOQHARI_NUMBERS, words, GOQHARI_WORDS, rests, store, GOQHARI_STORE, counts,
-                              GOQHARI_COUNTS);
-        if (number) return number;
-        if (rests[0]) return played(buffer, GOQHARI_LATENCY);
+        if ((number = goqhari_strip_rest(&strip, &rests))) return number;
+        if (rests) return played(buffer, GOQHARI_LATENCY);
         if ((number = played(buffer, BUFFER))) return number;
     }
 }
@@ -86,8 +81,8 @@ static unsigned char *all_of(const char *path, size_t *len) {
 }
 
 static int to_file(const struct wav *wav, const char *path) {
-    const goqhari_setup setup = GOQHARI_DEFAULT;
-    uint64_t number = goqhari_open_setup(&setup, NULL, 0, NULL, 0, NULL, 0, numbers, words, store, counts);
+    const struct goqhari_setup setup = GOQHARI_SETUP_DEFAULT;
+    uint64_t number = goqhari_strip_open(&strip, &setup, NULL, NULL, 0, NULL, 0);
     if (number) return refused(number);
     out = fopen(path, "wb");
     if (!out) return failed("the output can't be opened");

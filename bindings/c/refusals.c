@@ -8,7 +8,7 @@
 #include <string.h>
 
 enum { SAMPLES = 96, POSITION = 0 };
-static const uint64_t END = 1ull << 32;
+static const uint64_t END = GOQHARI_MAX_POSITION;
 
 /* ---- what is lent, and how it was */
 
@@ -60,7 +60,7 @@ static void accepted(const char *what, uint64_t answer) {
 
 static struct lengths {
     size_t numbers, words, store, counts;
-} whole = {GOQHARI_NUMBERS, GOQHARI_WORDS, GOQHARI_STORE, GOQHARI_COUNTS};
+} whole = {GOQHARI_NUMBERS, GOQHARI_WORDS, GOQHARI_STORE_NUMBERS, GOQHARI_STORE_COUNTS};
 
 /* What open is given beside the stores. */
 struct opening {
@@ -129,14 +129,13 @@ static void short_lengths(void) {
     of[2].numbers--;
     of[3].words--;
     const char *what[] = {"a short store", "a short count store", "too few numbers", "too few words"};
-    uint64_t number[] = {1, 1, GOQHARI_SHORT, GOQHARI_SHORT};
     struct opening bad = good;
     bad.doubles[3] = 2;
     for (int i = 0; i < 4; i++) {
-        all_decline(what[i], number[i], of[i]);
-        declined(what[i], GOQHARI_SHORT_AT_OPEN(number[i]), open_in(good, of[i]));
+        all_decline(what[i], i < 2 ? 1 : 4, of[i]);
+        declined(what[i], 1, open_in(good, of[i]));
+        declined("short before a bad number", 1, open_in(bad, of[i]));
     }
-    declined("a short store before a bad number", 1, open_in(bad, of[0]));
     struct lengths none = {0, 0, 0, 0};
     all_decline("nothing lent", 1, none);
     declined("nothing lent", 1, open_in(good, none));
@@ -265,7 +264,7 @@ static void spoil(void) {
     const struct {
         void *bytes;
         size_t len;
-    } all[] = {{numbers, GOQHARI_NUMBERS}, {words, GOQHARI_WORDS}, {store, GOQHARI_STORE}, {counts, GOQHARI_COUNTS}};
+    } all[] = {{numbers, GOQHARI_NUMBERS}, {words, GOQHARI_WORDS}, {store, GOQHARI_STORE_NUMBERS}, {counts, GOQHARI_STORE_COUNTS}};
     static const uint64_t telling[] = {0, 1, 882, 883, 884, 1ull << 32, UINT64_MAX, 0x7ff8000000000000, 0x3ff0000000000001};
     unsigned which = drawn() % 4;
     uint64_t bits = drawn() % 2 ? drawn() >> drawn() % 64 : telling[drawn() % 9];
@@ -314,8 +313,8 @@ static void garbage(int rounds) {
 int main(int count, char **args) {
     numbers = lend(0, sizeof *numbers * GOQHARI_NUMBERS);
     words = lend(1, sizeof *words * GOQHARI_WORDS);
-    store = lend(2, sizeof *store * GOQHARI_STORE);
-    counts = lend(3, sizeof *counts * GOQHARI_COUNTS);
+    store = lend(2, sizeof *store * GOQHARI_STORE_NUMBERS);
+    counts = lend(3, sizeof *counts * GOQHARI_STORE_COUNTS);
     frames = lend(4, sizeof *frames * 2 * SAMPLES);
     gains = lend(5, sizeof *gains * SAMPLES);
     rests = lend(6, sizeof *rests);

@@ -11,7 +11,7 @@ use std::time::Instant;
 
 use common::svg::{Axis, COLOURS, Picture};
 use common::{Heard, db, wav};
-use goqhari::{COUNTS, LATENCY, Latch, RATE, STORE, Setup, Strip, gain};
+use goqhari::{LATENCY, Latch, RATE, STORE_COUNTS, STORE_NUMBERS, Setup, Strip, gain};
 
 const SECOND: f64 = RATE as f64;
 /// A beat at 80 a minute.
@@ -75,7 +75,7 @@ fn main() -> Result<(), Box<dyn Error>> {
     let [_, sound, picture] = &words[..] else { return Err("use: demo WAV SVG".into()) };
     let (samples, kicks) = phrase();
     let setup = Setup { kicks: &kicks, ..Setup::default() };
-    let (mut store, mut counts) = (vec![0.0; STORE], vec![0; COUNTS]);
+    let (mut store, mut counts) = (vec![0.0; STORE_NUMBERS], vec![0; STORE_COUNTS]);
     let mut strip = Strip::open(&setup, &mut store, &mut counts)?;
     let mut heard = Heard::default();
     let mut calls = 0;

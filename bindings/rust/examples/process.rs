@@ -8,11 +8,11 @@ use std::process::ExitCode;
 use std::{env, fs};
 
 use common::{Heard, wav};
-use goqhari::{COUNTS, STORE, Setup, Strip};
+use goqhari::{STORE_COUNTS, STORE_NUMBERS, Setup, Strip};
 
 fn process(from: &str, to: &str) -> Result<(), Box<dyn Error>> {
     let (format, samples) = wav::read(&fs::read(from)?)?;
-    let (mut store, mut counts) = (vec![0.0; STORE], vec![0; COUNTS]);
+    let (mut store, mut counts) = (vec![0.0; STORE_NUMBERS], vec![0; STORE_COUNTS]);
     let mut strip = Strip::open(&Setup::default(), &mut store, &mut counts)?;
     let mut heard = Heard::default();
     // as a player would, buffer by buffer; any other size gives the same frames

@@ -11,7 +11,7 @@ use std::fs;
 
 use common::svg::{Axis, COLOURS, Picture};
 use common::{Heard, db};
-use goqhari::{COUNTS, LATENCY, LIMIT, RATE, Refusal, STORE, Setup, Strip, Tone, UNITY, gain};
+use goqhari::{CEILING, GAIN_UNIT, LATENCY, RATE, Refusal, STORE_COUNTS, STORE_NUMBERS, Setup, Strip, Tone, gain};
 
 const SECOND: f64 = RATE as f64;
 /// The setup that is measured: one tone as good as linear, and nothing that moves but the tape's wow and flutter.
@@ -32,7 +32,7 @@ const PLAIN: Setup<'_> = Setup {
 
 /// Samples through a fresh strip; then, if it is to ring out, silence until it rests, and where it does.
 fn played(setup: &Setup<'_>, samples: &[f64], to_rest: bool) -> Result<(Heard, usize), Refusal> {
-    let (mut store, mut counts) = (vec![0.0; STORE], vec![0; COUNTS]);
+    let (mut store, mut counts) = (vec![0.0; STORE_NUMBERS], vec![0; STORE_COUNTS]);
     let mut strip = Strip::open(setup, &mut store, &mut counts)?;
     let mut heard = Heard::default();
     heard.run(&mut strip, samples, true)?;
@@ -121,7 +121,7 @@ fn plate(figures: &mut String) -> Result<String, Refusal> {
     impulse[0] = 0.5;
     let (wet, rested) = played(&Setup { send: 1.0, ..PLAIN }, &impulse, true)?;
     let (dry, _) = played(&PLAIN, &impulse, false)?;
-    assert!(wet.gains.iter().all(|&count| count == UNITY), "the ceiling was to leave the impulse alone");
+    assert!(wet.gains.iter().all(|&count| count == GAIN_UNIT), "the ceiling was to leave the impulse alone");
     let side = |i: usize| -> Vec<f64> {
         wet.in_time().iter().zip(dry.in_time()).map(|(wet, dry)| f64::from(wet[i]) - f64::from(dry[i])).collect()
     };
@@ -205,7 +205,7 @@ fn ceiling(figures: &mut String) -> Result<String, Refusal> {
     panel.envelope(&output, 1.0 / SECOND, COLOURS[2]);
     panel.key(0, COLOURS[1], "limit");
     [-1.0, 1.0]
-        .map(|sign| sign * f64::from(LIMIT))
+        .map(|sign| sign * f64::from(CEILING))
         .into_iter()
         .for_each(|limit| panel.curve(&[(0.05, limit), (0.5, limit)], COLOURS[1]));
     let mut panel = picture.panel(360.0..430.0, time(), Axis::even(-20.0..0.0, 5.0, "gain, dB"));

@@ -5,9 +5,9 @@
 //! between calls, which the part's theorem asks, is what the borrow says.
 //!
 //! ```no_run
-//! use goqhari::{COUNTS, STORE, Setup, Strip};
+//! use goqhari::{STORE_COUNTS, STORE_NUMBERS, Setup, Strip};
 //!
-//! let (mut store, mut counts) = (vec![0.0; STORE], vec![0; COUNTS]);
+//! let (mut store, mut counts) = (vec![0.0; STORE_NUMBERS], vec![0; STORE_COUNTS]);
 //! let mut strip = Strip::open(&Setup::default(), &mut store, &mut counts)?;
 //! let (mut frames, mut gains) = ([[0.0; 2]; 64], [0; 64]);
 //! strip.run(&[0.25; 64], true, &mut frames, &mut gains)?;
@@ -23,24 +23,24 @@ pub const RATE: u32 = 44_100;
 /// How many samples late a frame is delivered: the ceiling looks that far ahead.
 pub const LATENCY: usize = 220;
 /// The least length of the sample store.
-pub const STORE: usize = 49_152;
+pub const STORE_NUMBERS: usize = 49_152;
 /// The least length of the count store.
-pub const COUNTS: usize = 4_096;
+pub const STORE_COUNTS: usize = 4_096;
 /// No position passes this: 27 hours from the strip's opening.
-pub const END: u64 = 1 << 32;
+pub const MAX_POSITION: u64 = 1 << 32;
 /// The gain count at which the ceiling leaves a frame as it is.
-pub const UNITY: u64 = 221 << 40;
+pub const GAIN_UNIT: u64 = 221 << 40;
 /// The ceiling, -1 dBFS: no side that is delivered is larger.
-pub const LIMIT: f32 = 0.891_250_9;
+pub const CEILING: f32 = 0.891_250_9;
 
 /// The f64 of a packed strip, GOQHARI_NUMBERS of the header.
 pub const NUMBERS: usize = 85;
 /// The u64 of a packed strip, GOQHARI_WORDS of the header.
 pub const WORDS: usize = 18;
 
-/// The ceiling's gain that a count of [`Strip::run`] stands for: 1 at [`UNITY`].
+/// The ceiling's gain that a count of [`Strip::run`] stands for: 1 at [`GAIN_UNIT`].
 pub fn gain(count: u64) -> f64 {
-    count as f64 / UNITY as f64
+    count as f64 / GAIN_UNIT as f64
 }
 
 /// The lane's tone: the corner of its lowpass, 20 to 20,000 Hz, and the drive of its saturation, 0.1 to 8.
@@ -141,21 +141,21 @@ pub struct Latch {
 #[repr(u64)]
 pub enum Refusal {
     /// A lent store is too short.
-    Store = 1,
+    StoreShort = 1,
     /// A number of the setup is NaN or outside its range.
-    Setup = 2,
+    BadSetup = 2,
     /// A list is too long, falls, has positions and values unequal in number, or something outside its range.
-    List = 3,
+    BadList = 3,
     /// The strip is malformed. A [`Strip`] never is.
-    Strip = 4,
+    BadStrip = 4,
     /// The frames or the gains are not as many as the samples.
-    Output = 5,
-    /// The run would pass [`END`].
-    End = 6,
+    BadOutput = 5,
+    /// The run would pass [`MAX_POSITION`].
+    PastEnd = 6,
     /// A sample is not finite, or larger than 1,024.
-    Sample = 7,
+    BadSample = 7,
     /// A control is NaN or outside 0 to 1, or a length exceeds 2^32.
-    Control = 8,
+    BadControl = 8,
 }
 
 impl Refusal {
@@ -168,14 +168,14 @@ impl Refusal {
 impl fmt::Display for Refusal {
     fn fmt(&self, f: &mut fmt::Formatter<'_>) -> fmt::Result {
         f.write_str(match self {
-            Self::Store => "a lent store is too short",
-            Self::Setup => "a number of the setup is outside its range",
-            Self::List => "a list is too long, falls, or has something outside its range",
-            Self::Strip => "the strip is malformed",
-            Self::Output => "the frames or the gains are not as many as the samples",
-            Self::End => "the run would pass position 2^32",
-            Self::Sample => "a sample is not finite, or larger than 1,024",
-            Self::Control => "a control or a length is outside its range",
+            Self::StoreShort => "a lent store is too short",
+            Self::BadSetup => "a number of the setup is outside its range",
+            Self::BadList => "a list is too long, falls, or has something outside its range",
+            Self::BadStrip => "the strip is malformed",
+            Self::BadOutput => "the frames or the gains are not as many as the samples",
+            Self::PastEnd => "the run would pass position 2^32",
+            Self::BadSample => "a sample is not finite, or larger than 1,024",
+            Self::BadControl => "a control or a length is outside its range",
         })
     }
 }
@@ -185,14 +185,14 @@ impl core::error::Error for Refusal {}
 fn answered(number: u64) -> Result<(), Refusal> {
     Err(match number {
         0 => return Ok(()),
-        1 => Refusal::Store,
-        2 => Refusal::Setup,
-        3 => Refusal::List,
-        4 => Refusal::Strip,
-        5 => Refusal::Output,
-        6 => Refusal::End,
-        7 => Refusal::Sample,
-        8 => Refusal::Control,
+        1 => Refusal::StoreShort,
+        2 => Refusal::BadSetup,
+        3 => Refusal::BadList,
+        4 => Refusal::BadStrip,
+        5 => Refusal::BadOutput,
+        6 => Refusal::PastEnd,
+        7 => Refusal::BadSample,
+        8 => Refusal::BadControl,
         _ => unreachable!("the contracts give no other number"),
     })
 }
@@ -206,7 +206,7 @@ pub struct Strip<'a> {
 }
 
 impl<'a> Strip<'a> {
-    /// Opens a strip at position 0 in stores of at least [`STORE`] and [`COUNTS`] elements, which may hold anything. What
+    /// Opens a strip at position 0 in stores of at least [`STORE_NUMBERS`] and [`STORE_COUNTS`] elements, which may hold anything. What
     /// lies beyond those lengths is never touched.
     pub fn open(setup: &Setup<'_>, store: &'a mut [f64], counts: &'a mut [u64]) -> Result<Self, Refusal> {
         let (singles, doubles, flags) = packed(setup);
