@@ -145,7 +145,8 @@ fn plate(figures: &mut String) -> Result<String, Refusal> {
     let most = squares.iter().copied().fold(0.0, f64::max);
     let first = squares.iter().position(|&square| square > 1e-6 * most).unwrap_or(0) as f64 / SECOND;
     let through: Vec<f64> = dry.frames.iter().map(|frame| 2.0 * f64::from(frame[0]).powi(2)).collect();
-    let _ = writeln!(figures, "- first sound of the plate {:.1} ms after the lane's", first * 1e3);
+    let _ =
+        writeln!(figures, "- its first sound comes {:.1} ms after the impulse, the look-ahead taken off", first * 1e3);
     let _ =
         writeln!(figures, "- decay: T60 {:.2} s, by the line through -5 to -35 dB of Schroeder's curve", -60.0 / slope);
     let _ = writeln!(
@@ -195,7 +196,7 @@ fn ceiling(figures: &mut String) -> Result<String, Refusal> {
         begins / SECOND * 1e3,
         (LATENCY as f64 - begins) / SECOND * 1e3
     );
-    let _ = writeln!(figures, "- it is back at 1 {:.0} ms after the burst's end", back as f64 / SECOND * 1e3);
+    let _ = writeln!(figures, "- it is back at 0 dB {:.0} ms after the burst's end", back as f64 / SECOND * 1e3);
 
     let time = || Axis::even(0.05..0.5, 0.05, "s");
     let mut picture = Picture::new(1000.0, 470.0, "A burst of 1 kHz, 50 ms at 4, under the ceiling");
