@@ -1,5 +1,6 @@
 # test: the layout, the part beside the Rust, what a maker links, then the verdict, whose last line is 'N passed, 0 failed'.
-# lib: the library, proved. demo: a phrase through it, to hear and to see. sheet: the data sheet's pictures and figures, measured anew.
+# lib: build/libgoqhari.a, for C and C++ by include/goqhari.h and for Rust by bindings/rust, proved before it is built.
+# demo: a phrase through it, to hear and to see. sheet: the data sheet's pictures and figures, measured anew.
 # replay: the replays' tallies, of the part's answers beside kept lists of the oracle's.
 .PHONY: test lib demo sheet replay
 
@@ -8,6 +9,14 @@ test:
 	harness/compare 1 20
 	bindings/test
 	rt ci
+
+lib: build/libgoqhari.a
+
+# proved again where anything that it is made of is newer
+build/libgoqhari.a: crates.txt $(shell find crates -name '*.rt' -o -name '*.antt')
+	rt staticlib goqhari
+	mkdir -p build
+	cp target/staticlib/libgoqhari.a build/libgoqhari.a
 
 demo: lib
 	bindings/example demo build/demo.wav build/demo.svg

@@ -7,6 +7,7 @@ use std::hint::black_box;
 use std::time::{Duration, Instant};
 
 mod compare;
+mod library;
 mod part;
 mod report;
 mod rng;

@@ -4,6 +4,7 @@
 use std::time::{Duration, Instant};
 
 mod compare;
+mod library;
 mod part;
 mod report;
 mod rng;

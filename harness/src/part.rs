@@ -89,40 +89,6 @@ unsafe extern "C" {
         calls: *const u64,
         calls_len: usize,
     );
-    fn goqhari_test_calls(
-        f32s: &[f32; 8],
-        f64s: &[f64; 4],
-        flags: u64,
-        points: *const u64,
-        points_len: usize,
-        values: *const f64,
-        values_len: usize,
-        kicks: *const u64,
-        kicks_len: usize,
-        store: *mut f64,
-        store_len: usize,
-        counts: *mut u64,
-        counts_len: usize,
-        calls: *const u64,
-        calls_len: usize,
-        samples: *const f64,
-        samples_len: usize,
-        frames: *mut f32,
-        frames_len: usize,
-        gains: *mut u64,
-        gains_len: usize,
-        answers: *mut u64,
-        answers_len: usize,
-    );
-}
-
-/// What 01 lends: the stores' least lengths.
-pub const STORE: usize = 49_152;
-pub const COUNTS: usize = 4_096;
-
-/// A store before open: no call may lean on what it holds.
-pub fn stores() -> (Vec<f64>, Vec<u64>) {
-    (vec![f64::NAN; STORE], vec![u64::MAX; COUNTS])
 }
 
 pub fn push(ring: &mut [f64], written: u64, x: f64) {
@@ -267,52 +233,6 @@ pub fn ceiling_in(
             gains.len(),
             calls.as_ptr(),
             calls.len(),
-        );
-    }
-}
-
-/// What a list of calls wrote.
-#[derive(Clone, Debug)]
-pub struct Written {
-    pub frames: Vec<f32>,
-    pub gains: Vec<u64>,
-    pub answers: Vec<u64>,
-}
-
-/// Opens a strip and makes `calls`, five words each, over `samples`; `written` holds what was there before.
-pub fn calls(
-    setup: &Setup,
-    (store, counts): (&mut [f64], &mut [u64]),
-    calls: &[[u64; 5]],
-    samples: &[f64],
-    written: &mut Written,
-) {
-    let Numbers { f32s, f64s, flags } = setup.numbers();
-    unsafe {
-        goqhari_test_calls(
-            &f32s,
-            &f64s,
-            flags,
-            setup.points.as_ptr(),
-            setup.points.len(),
-            setup.values.as_ptr(),
-            setup.values.len(),
-            setup.kicks.as_ptr(),
-            setup.kicks.len(),
-            store.as_mut_ptr(),
-            store.len(),
-            counts.as_mut_ptr(),
-            counts.len(),
-            calls.as_ptr().cast(),
-            5 * calls.len(),
-            samples.as_ptr(),
-            samples.len(),
-            written.frames.as_mut_ptr(),
-            written.frames.len(),
-            written.gains.as_mut_ptr(),
-            written.gains.len(),
-            written.answers.as_mut_ptr(),
-            written.answers.len(),
         );
     }
 }

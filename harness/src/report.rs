@@ -36,6 +36,7 @@ pub struct Report {
     pub cases: u64,
     pub differences: u64,
     shown: Vec<(u64, String)>,
+    told: Vec<String>,
 }
 
 impl Report {
@@ -54,7 +55,15 @@ impl Report {
         self.shown.truncate(SHOWN);
     }
 
+    /// A line that stands before the report's own.
+    pub fn tell(&mut self, line: String) {
+        self.told.push(line);
+    }
+
     pub fn print(&self, name: &str) {
+        for line in &self.told {
+            println!("{name}: {line}");
+        }
         for (_, text) in &self.shown {
             println!("{name} differs at {text}");
         }

@@ -1,39 +1,47 @@
-// A lane's setup out of the harness's numbers (harness/SIGNATURES.md, tape). Uses automation and tape for their types.
+// A lane's setup out of the numbers and flags that C hands over (specs/Setup.antt). Uses automation and tape for their types.
+ghost use mathlib.Core.Path.{_≡_};
+ghost use Rattle.exports_setup.specs.Setup.{toneOf, padOf, tapeSetupOf};
 use automation::Tone;
 use tape::Pad;
 use tape::TapeSetup;
 
-fn tone_of(f32s: &[f32; 8], drive: f64, graded: bool) -> Tone {
+fn tone_of(singles: &[f32; 8], drive: f64, graded: bool) -> Tone
+    ensures { λ r. ⌜ r ≡ toneOf (now (singles .entry)) drive graded ⌝ }
+{
     if graded {
         return Tone::Graded {
-            night_corner: f32s[0],
-            day_corner: f32s[1],
-            night_drive: f32s[2],
-            day_drive: f32s[3],
+            night_corner: singles[0],
+            day_corner: singles[1],
+            night_drive: singles[2],
+            day_drive: singles[3],
         };
     }
     Tone::Fixed {
-        corner: f32s[0],
+        corner: singles[0],
         drive,
     }
 }
 
-fn pad_of(hz: f32, depth: f32, pad: bool) -> Pad {
+fn pad_of(hz: f32, depth: f32, pad: bool) -> Pad
+    ensures { λ r. ⌜ r ≡ padOf hz depth pad ⌝ }
+{
     if pad {
         return Pad::Swell { hz, depth };
     }
     Pad::Without
 }
 
-pub fn setup_of(f32s: &[f32; 8], f64s: &[f64; 4], flags: u64) -> TapeSetup {
-    let tone = tone_of(f32s, f64s[0], flags % 2 == 1);
-    let pad = pad_of(f32s[4], f32s[5], flags / 2 % 2 == 1);
+pub fn setup_of(singles: &[f32; 8], doubles: &[f64; 4], flags: u64) -> TapeSetup
+    ensures { λ r. ⌜ r ≡ tapeSetupOf (now (singles .entry)) (now (doubles .entry)) flags ⌝ }
+{
+    let tone = tone_of(singles, doubles[0], flags % 2 == 1);
+    let pad = pad_of(singles[4], singles[5], flags / 2 % 2 == 1);
     TapeSetup {
         tone,
         pad,
         darkened: flags / 4 % 2 == 1,
-        input: f64s[1],
-        output: f64s[2],
+        input: doubles[1],
+        output: doubles[2],
         ducked: flags / 8 % 2 == 1,
     }
 }

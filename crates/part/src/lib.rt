@@ -1,5 +1,5 @@
 // The four calls: open, run, latch, rest. Uses every crate below it; strip has the types and the definitions that the contracts cite.
-// opening.rt has what open lays into the stores, blocks.rt a run's loop over blocks.
+// opening.rt has what open lays into the stores, laying.rt the two loops that lay a list, blocks.rt a run's loop over blocks.
 ghost use mathlib.Core.Path.{_≡_};
 ghost use Rattle.rate.specs.Rate.{rateOf, RateUsable};
 ghost use Rattle.strip.specs.Calls.{state, openCall, runCall, latchedStrip, latchCall, restingOn, restCall};
@@ -15,6 +15,7 @@ use strip::Setup;
 use strip::Strip;
 
 mod blocks;
+pub mod laying;
 mod opening;
 
 // ---- open

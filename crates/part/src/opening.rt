@@ -5,7 +5,8 @@ ghost use lib.ListN.{length, replicate};
 ghost use Rattle.casts.specs.Arithmetic.{nought};
 ghost use Rattle.rate.specs.Rate.{RateUsable};
 ghost use Rattle.refusals.specs.Pieces.{Sized};
-ghost use Rattle.part.specs.Pieces.{over, silenced, listed, ceiled, ceiledFresh, freshStrip};
+ghost use Rattle.part.specs.Pieces.{silenced, listed, ceiled, ceiledFresh, freshStrip};
+use crate::laying;
 use duck::Duck;
 use master::Ceiling;
 use plate::Plate;
@@ -25,28 +26,6 @@ fn clear(part: &mut [f64])
     }
 }
 
-fn lay_values(values: &[f64], part: &mut [f64])
-    requires { ⌜ length (now values) ≤ length (now part) ⌝ }
-    ensures { λ _. ⌜ now (part .exit) ≡ over (now (values .entry)) (now (part .entry)) ⌝ }
-{
-    let mut i: usize = 0;
-    while i < values.len() {
-        part[i] = values[i];
-        i += 1;
-    }
-}
-
-fn lay_positions(positions: &[u64], part: &mut [u64])
-    requires { ⌜ length (now positions) ≤ length (now part) ⌝ }
-    ensures { λ _. ⌜ now (part .exit) ≡ over (now (positions .entry)) (now (part .entry)) ⌝ }
-{
-    let mut i: usize = 0;
-    while i < positions.len() {
-        part[i] = positions[i];
-        i += 1;
-    }
-}
-
 // The warp's and the plate's lines silent, and the sweep's values at their place.
 pub fn lay_samples(rate: Rate, values: &[f64], store: &mut [f64])
     requires { ⌜ RateUsable rate ⌝ }
@@ -57,7 +36,7 @@ pub fn lay_samples(rate: Rate, values: &[f64], store: &mut [f64])
     let v = refusals::places::values_at(rate);
     clear(&mut store[0..a]);
     let e = store.len();
-    lay_values(values, &mut store[v..e]);
+    laying::lay_values(values, &mut store[v..e]);
 }
 
 // The kicks and the sweep's positions at their places.
@@ -69,7 +48,7 @@ pub fn lay_counts(rate: Rate, positions: &[u64], kicks: &[u64], counts: &mut [u6
     let p = refusals::places::positions_at(rate);
     Duck::new(kicks, &mut counts[0..refusals::places::DUCK]);
     let e = counts.len();
-    lay_positions(positions, &mut counts[p..e]);
+    laying::lay_positions(positions, &mut counts[p..e]);
 }
 
 // A fresh ceiling on its parts of the stores.

@@ -57,10 +57,6 @@ pub const ALL: &[(&str, u64, Run)] = &[
     ("plate", LISTS, plate::run),
     ("ceiling", LISTS, ceiling::run),
     ("strip", LISTS, strip::run),
-];
-
-/// Those whose functions crates/exports has not yet: a line goes up into `ALL` with them.
-pub const LATER: &[(&str, u64, Run)] = &[
     ("abuse", LISTS, abuse::run),
 ];
 

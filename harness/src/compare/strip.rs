@@ -1,14 +1,22 @@
-//! Lists of calls: open, runs, latches and rests, accepted and declined, in one strip and one pair of stores.
+//! Lists of calls to the library: open, runs, latches and rests, accepted and declined, in one strip and one pair of stores.
 
 use super::lists::{self, List};
 use super::tape::length;
-use crate::part::{self, COUNTS, STORE, Written};
+use crate::library::{COUNTS, Memory, STORE};
 use crate::report::{Budget, Report};
 use crate::rng::Rng;
 use crate::setup::{Setup, control};
 use crate::shrink::{Shrink, each_without};
 use crate::signal::{self, Signal};
 use crate::strip::{Strip, why_not};
+
+/// What a list of calls wrote.
+#[derive(Clone, Debug)]
+struct Written {
+    frames: Vec<f32>,
+    gains: Vec<u64>,
+    answers: Vec<u64>,
+}
 
 /// A call, and what is wrong with what is lent to it: bits 1 and 2, the frame and the count output one element short;
 /// bits 4 and 8, a store one element short; bits 16 and 32, the outputs one element long.
@@ -31,20 +39,13 @@ struct Case {
 const NO_FRAME: f32 = -7.0;
 const NO_GAIN: u64 = 77;
 const NO_ANSWER: u64 = 99;
-/// What the stores hold beyond.
-const BEYOND: f64 = -3.0;
 /// Rest's answers are 100 and 101, so that no number is taken for one.
 const REST: u64 = 100;
 
 impl Call {
-    pub fn words(&self) -> [u64; 5] {
+    fn wrong(&self) -> u64 {
         match self {
-            Call::Run { samples, drums, wrong } => [0, samples.len() as u64, u64::from(*drums), 0, *wrong],
-            Call::Latch { to, over, wrong } => {
-                let controls = u64::from(to[0].to_bits()) << 32 | u64::from(to[1].to_bits());
-                [1, controls, over[0], over[1], *wrong]
-            }
-            Call::Rest { wrong } => [2, 0, 0, 0, *wrong],
+            Call::Run { wrong, .. } | Call::Latch { wrong, .. } | Call::Rest { wrong } => *wrong,
         }
     }
 
@@ -91,16 +92,46 @@ impl Case {
         }
     }
 
-    /// What the part wrote, and whether the elements beyond are as they were.
+    /// What the library wrote, and whether the elements beyond are as they were.
     fn ours(&self) -> (Written, bool) {
-        let mut store = vec![BEYOND; STORE + self.beyond];
-        let mut counts = vec![NO_GAIN; COUNTS + self.beyond];
-        let words: Vec<[u64; 5]> = self.calls.iter().map(Call::words).collect();
-        let samples: Vec<f64> = self.calls.iter().flat_map(Call::samples).copied().collect();
-        let mut written = self.outputs();
-        part::calls(&self.setup, (&mut store, &mut counts), &words, &samples, &mut written);
-        let kept = store[STORE..].iter().all(|&x| x == BEYOND) && counts[COUNTS..].iter().all(|&n| n == NO_GAIN);
-        (written, kept)
+        let mut memory = Memory::new(self.beyond);
+        let mut out = self.outputs();
+        out.answers[0] = memory.whole().open(&self.setup);
+        if out.answers[0] != 0 {
+            return (out, memory.kept_beyond());
+        }
+        let mut at = 0;
+        for (i, call) in self.calls.iter().enumerate() {
+            let (len, wrong) = (call.samples().len(), call.wrong());
+            let mut lengths = memory.lengths();
+            if wrong & 4 != 0 {
+                lengths[2] = STORE - 1;
+            }
+            if wrong & 8 != 0 {
+                lengths[3] = COUNTS - 1;
+            }
+            let lent = memory.lend(lengths);
+            out.answers[i + 1] = match call {
+                Call::Run { samples, drums, .. } => {
+                    let end = |elements: usize, short: u64, long: u64| {
+                        elements + usize::from(wrong & long != 0) - usize::from(wrong & short != 0 && elements > 0)
+                    };
+                    let frames = &mut out.frames[2 * at..][..end(2 * len, 1, 16)];
+                    let gains = &mut out.gains[at..][..end(len, 2, 32)];
+                    lent.run(samples, u64::from(*drums), frames, gains)
+                }
+                Call::Latch { to, over, .. } => lent.latch(*to, *over),
+                Call::Rest { .. } => {
+                    let mut rests = [NO_ANSWER];
+                    match lent.rest(&mut rests) {
+                        0 => REST + rests[0],
+                        number => number,
+                    }
+                }
+            };
+            at += len;
+        }
+        (out, memory.kept_beyond())
     }
 
     fn oracle(&self) -> Written {
@@ -114,7 +145,7 @@ impl Case {
         for (i, call) in self.calls.iter().enumerate() {
             let len = call.samples().len();
             out.answers[i + 1] = match call {
-                Call::Run { wrong, .. } | Call::Latch { wrong, .. } | Call::Rest { wrong } if wrong & 12 != 0 => 1,
+                _ if call.wrong() & 12 != 0 => 1,
                 // an output that has no elements cannot be one short of them
                 Call::Run { wrong, .. } if wrong & 48 != 0 || (wrong & 3 != 0 && len > 0) => 5,
                 Call::Run { samples, drums, .. } => match strip.run(samples, *drums) {

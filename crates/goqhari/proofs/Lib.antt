@@ -1,0 +1,2 @@
+-- How each call ends.
+pub mod Ends

@@ -1,0 +1,2 @@
+-- The four calls on a packed strip.
+pub mod Library

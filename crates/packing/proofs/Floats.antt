@@ -1,0 +1,42 @@
+-- An f32 among the numbers, and a number that is left out. Assumes nothing.
+use mathlib.Core.Path.{_≡_, refl, sym, ap, _∙_}
+use mathlib.Core.Bool.{Bool, true}
+use lib.Dec.{T, eqb→eq}
+use lib.Ieee.{Float, nan, inf, fin, binary32, binary64, fits, round, up, down, toBits, ofBits}
+use lib.Ieee.Fits.{round-fits, nan-fits, inf-fits, fits-widens}
+use lib.Ieee.Bits.{ofBits-toBits}
+use Prim.Native.Nat.{_*_}
+use borrow.Author.Tests.{eq-eqb}
+use Rattle.casts.specs.Arithmetic.{nought}
+use Rattle.casts.specs.Cast.{narrowed}
+use Rattle.casts.proofs.Exact.{round-own}
+use Rattle.packing.specs.Packing.{isShort, isNought}
+
+pub narrowed-own : (x : Float) → T (fits binary32 x) → narrowed x ≡ x
+unfolding narrowed
+narrowed-own nan h = refl
+narrowed-own (inf s) h = refl
+narrowed-own (fin s m e) h = round-own binary32 s m e h
+
+narrowed-fits : (x : Float) → T (fits binary64 (narrowed x))
+unfolding narrowed
+narrowed-fits nan = nan-fits binary64
+narrowed-fits (inf s) = inf-fits binary64 s
+narrowed-fits (fin s m e) = fits-widens (round binary32 s (m * up e) (down e)) (round-fits binary32 s (m * up e) (down e))
+
+pub short-is : (x : Float) → T (fits binary32 x) → isShort x ≡ true
+unfolding isShort
+short-is x h = eq-eqb _ _ (ap (toBits binary64) (narrowed-own x h))
+
+pub nought-is : isNought nought ≡ true
+unfolding isNought toBits ofBits
+nought-is = refl
+
+pub short-back : (x : Float) → T (fits binary64 x) → T (isShort x) → narrowed x ≡ x
+unfolding isShort
+short-back x h t =
+    sym (ofBits-toBits binary64 (narrowed x) (narrowed-fits x)) ∙ ap (ofBits binary64) (eqb→eq (toBits binary64 (narrowed x)) (toBits binary64 x) t) ∙ ofBits-toBits binary64 x h
+
+pub nought-back : (x : Float) → T (fits binary64 x) → T (isNought x) → x ≡ nought
+unfolding isNought
+nought-back x h t = sym (ofBits-toBits binary64 x h) ∙ ap (ofBits binary64) (eqb→eq (toBits binary64 x) 0 t)

@@ -1,0 +1,27 @@
+use Rattle.packing.specs.Packing.{padFits}
+use borrow.Author.Tests.{eq-eqb, ne-eqb}
+use borrow.Author.Needs.{needs}
+use Rattle.packing.proofs.pad_fits.Statement.{statement}
+use Rattle.packing.proofs.pad_fits.Tie as tie
+
+without-fits-requires : tie.Need-without-fits-requires
+without-fits-requires c κs = search needs
+
+returns : tie.Need-returns
+unfolding padFits
+returns c = rw (eq-eqb _ _ (c .before .if1 .taken)) (c .without-fits .ensures)
+
+swell-fits-requires : tie.Need-swell-fits-requires
+swell-fits-requires c κs = search needs
+
+returns-2 : tie.Need-returns-2
+unfolding padFits
+returns-2 c = rw (ne-eqb _ _ (c .before .before .if1 .left), eq-eqb _ _ (c .before .if2 .taken)) (c .swell-fits .ensures)
+
+returns-3 : tie.Need-returns-3
+unfolding padFits
+returns-3 c = rw (ne-eqb _ _ (c .before .if1 .left), ne-eqb _ _ (c .if2 .left))
+
+pub pad-fits-spec : {M : Type 1} → statement M
+pad-fits-spec =
+    tie.close (tie.spec without-fits-requires returns swell-fits-requires returns-2 returns-3)

@@ -1,0 +1,228 @@
+//! The library that a maker links, by include/goqhari.h. Its memory is lent as slices of any length.
+
+use crate::setup::{Numbers, Setup};
+
+unsafe extern "C" {
+    fn goqhari_open(
+        singles: &[f32; 8],
+        doubles: &[f64; 4],
+        flags: u64,
+        positions: *const u64,
+        positions_len: usize,
+        values: *const f64,
+        values_len: usize,
+        kicks: *const u64,
+        kicks_len: usize,
+        numbers: *mut f64,
+        numbers_len: usize,
+        words: *mut u64,
+        words_len: usize,
+        store: *mut f64,
+        store_len: usize,
+        counts: *mut u64,
+        counts_len: usize,
+    ) -> u64;
+    fn goqhari_run(
+        numbers: *mut f64,
+        numbers_len: usize,
+        words: *mut u64,
+        words_len: usize,
+        samples: *const f64,
+        samples_len: usize,
+        drums: u64,
+        frames: *mut f32,
+        frames_len: usize,
+        gains: *mut u64,
+        gains_len: usize,
+        store: *mut f64,
+        store_len: usize,
+        counts: *mut u64,
+        counts_len: usize,
+    ) -> u64;
+    fn goqhari_latch(
+        numbers: *mut f64,
+        numbers_len: usize,
+        words: *mut u64,
+        words_len: usize,
+        daylight: f32,
+        grading: u64,
+        rain: f32,
+        darkening: u64,
+        store: *const f64,
+        store_len: usize,
+        counts: *const u64,
+        counts_len: usize,
+    ) -> u64;
+    fn goqhari_rest(
+        numbers: *const f64,
+        numbers_len: usize,
+        words: *const u64,
+        words_len: usize,
+        rests: &mut [u64; 1],
+        store: *const f64,
+        store_len: usize,
+        counts: *const u64,
+        counts_len: usize,
+    ) -> u64;
+}
+
+/// The header's sizes: numbers and words of a packed strip, and the stores'.
+pub const NUMBERS: usize = 85;
+pub const WORDS: usize = 18;
+pub const STORE: usize = 49_152;
+pub const COUNTS: usize = 4_096;
+
+/// What a call is lent of a strip's memory.
+pub struct Lent<'a> {
+    pub numbers: &'a mut [f64],
+    pub words: &'a mut [u64],
+    pub store: &'a mut [f64],
+    pub counts: &'a mut [u64],
+}
+
+impl Lent<'_> {
+    pub fn open(self, setup: &Setup) -> u64 {
+        let Numbers { f32s, f64s, flags } = setup.numbers();
+        self.open_by(&f32s, &f64s, flags, setup)
+    }
+
+    /// With numbers and flags of one's own; the lists are the setup's.
+    pub fn open_by(self, singles: &[f32; 8], doubles: &[f64; 4], flags: u64, lists: &Setup) -> u64 {
+        unsafe {
+            goqhari_open(
+                singles,
+                doubles,
+                flags,
+                lists.points.as_ptr(),
+                lists.points.len(),
+                lists.values.as_ptr(),
+                lists.values.len(),
+                lists.kicks.as_ptr(),
+                lists.kicks.len(),
+                self.numbers.as_mut_ptr(),
+                self.numbers.len(),
+                self.words.as_mut_ptr(),
+                self.words.len(),
+                self.store.as_mut_ptr(),
+                self.store.len(),
+                self.counts.as_mut_ptr(),
+                self.counts.len(),
+            )
+        }
+    }
+
+    pub fn run(self, samples: &[f64], drums: u64, frames: &mut [f32], gains: &mut [u64]) -> u64 {
+        unsafe {
+            goqhari_run(
+                self.numbers.as_mut_ptr(),
+                self.numbers.len(),
+                self.words.as_mut_ptr(),
+                self.words.len(),
+                samples.as_ptr(),
+                samples.len(),
+                drums,
+                frames.as_mut_ptr(),
+                frames.len(),
+                gains.as_mut_ptr(),
+                gains.len(),
+                self.store.as_mut_ptr(),
+                self.store.len(),
+                self.counts.as_mut_ptr(),
+                self.counts.len(),
+            )
+        }
+    }
+
+    pub fn latch(self, [daylight, rain]: [f32; 2], [grading, darkening]: [u64; 2]) -> u64 {
+        unsafe {
+            goqhari_latch(
+                self.numbers.as_mut_ptr(),
+                self.numbers.len(),
+                self.words.as_mut_ptr(),
+                self.words.len(),
+                daylight,
+                grading,
+                rain,
+                darkening,
+                self.store.as_ptr(),
+                self.store.len(),
+                self.counts.as_ptr(),
+                self.counts.len(),
+            )
+        }
+    }
+
+    pub fn rest(self, rests: &mut [u64; 1]) -> u64 {
+        unsafe {
+            goqhari_rest(
+                self.numbers.as_ptr(),
+                self.numbers.len(),
+                self.words.as_ptr(),
+                self.words.len(),
+                rests,
+                self.store.as_ptr(),
+                self.store.len(),
+                self.counts.as_ptr(),
+                self.counts.len(),
+            )
+        }
+    }
+}
+
+/// A strip's memory, of the asked lengths or longer.
+#[derive(Clone)]
+pub struct Memory {
+    pub numbers: Vec<f64>,
+    pub words: Vec<u64>,
+    pub store: Vec<f64>,
+    pub counts: Vec<u64>,
+}
+
+/// What memory holds before any call.
+const NUMBER: f64 = -3.0;
+const WORD: u64 = 77;
+
+impl Memory {
+    /// Each list so many elements longer than asked.
+    pub fn new(beyond: usize) -> Self {
+        Self {
+            numbers: vec![NUMBER; NUMBERS + beyond],
+            words: vec![WORD; WORDS + beyond],
+            store: vec![NUMBER; STORE + beyond],
+            counts: vec![WORD; COUNTS + beyond],
+        }
+    }
+
+    /// Lends the first elements of each list, so many.
+    pub fn lend(&mut self, [numbers, words, store, counts]: [usize; 4]) -> Lent<'_> {
+        Lent {
+            numbers: &mut self.numbers[..numbers],
+            words: &mut self.words[..words],
+            store: &mut self.store[..store],
+            counts: &mut self.counts[..counts],
+        }
+    }
+
+    pub fn lengths(&self) -> [usize; 4] {
+        [self.numbers.len(), self.words.len(), self.store.len(), self.counts.len()]
+    }
+
+    pub fn whole(&mut self) -> Lent<'_> {
+        self.lend(self.lengths())
+    }
+
+    /// Whether the elements past the asked lengths are as they are at first.
+    pub fn kept_beyond(&self) -> bool {
+        self.numbers[NUMBERS..].iter().chain(&self.store[STORE..]).all(|&x| x == NUMBER)
+            && self.words[WORDS..].iter().chain(&self.counts[COUNTS..]).all(|&n| n == WORD)
+    }
+
+    /// Whether every element is bit for bit the other's, from the given places on.
+    pub fn same_from(&self, other: &Memory, [numbers, words, store, counts]: [usize; 4]) -> bool {
+        let bits = |x: &[f64], y: &[f64]| x.iter().zip(y).all(|(a, b)| a.to_bits() == b.to_bits());
+        bits(&self.numbers[numbers..], &other.numbers[numbers..])
+            && self.words[words..] == other.words[words..]
+            && bits(&self.store[store..], &other.store[store..])
+            && self.counts[counts..] == other.counts[counts..]
+    }
+}
