@@ -169,7 +169,7 @@ fn plate(figures: &mut String) -> Result<String, Refusal> {
         picture.panel(325.0..480.0, Axis::even(0.0..2.0, 0.2, "s"), Axis::even(-80.0..0.0, 20.0, "still to come, dB"));
     panel.curve(&decay.iter().copied().take(2 * RATE as usize).step_by(200).collect::<Vec<_>>(), COLOURS[0]);
     panel.key(1, COLOURS[1], &format!("fit: 60 dB in {:.2} s", -60.0 / slope));
-    panel.curve(&[(-height / slope, 0.0), ((-80.0 - height) / slope, -80.0)], COLOURS[1]);
+    panel.curve(&[(-height / slope, 0.0), (2.0, 2.0 * slope + height)], COLOURS[1]);
     Ok(picture.finish())
 }
 

@@ -159,7 +159,8 @@ impl Panel<'_> {
 
     /// The reach of a signal, column by column: values at even steps from x = 0 on.
     pub fn envelope(&mut self, values: &[f64], step: f64, colour: &str) {
-        let columns = (self.right - self.left) as usize;
+        // wide enough that a column of a second's half has a whole turn of 1 kHz
+        let columns = ((self.right - self.left) / 3.0) as usize;
         let width = (self.x.ends.end - self.x.ends.start) / columns as f64;
         let (mut tops, mut bottoms) = (Vec::new(), Vec::new());
         for column in 0..columns {
