@@ -16,7 +16,12 @@
 #![no_std]
 #![warn(missing_docs)]
 
+pub mod raw;
+
 use core::fmt;
+
+#[link(name = "goqhari", kind = "static")]
+unsafe extern "C" {}
 
 /// Samples a second.
 pub const RATE: u32 = 44_100;
@@ -211,28 +216,18 @@ impl<'a> Strip<'a> {
     pub fn open(setup: &Setup<'_>, store: &'a mut [f64], counts: &'a mut [u64]) -> Result<Self, Refusal> {
         let (singles, doubles, flags) = packed(setup);
         let mut strip = Self { numbers: [0.0; NUMBERS], words: [0; WORDS], store, counts };
-        // SAFETY: each pointer is of a slice or an array, and has its length beside it.
-        answered(unsafe {
-            goqhari_open(
-                &singles,
-                &doubles,
-                flags,
-                setup.positions.as_ptr(),
-                setup.positions.len(),
-                setup.values.as_ptr(),
-                setup.values.len(),
-                setup.kicks.as_ptr(),
-                setup.kicks.len(),
-                strip.numbers.as_mut_ptr(),
-                NUMBERS,
-                strip.words.as_mut_ptr(),
-                WORDS,
-                strip.store.as_mut_ptr(),
-                strip.store.len(),
-                strip.counts.as_mut_ptr(),
-                strip.counts.len(),
-            )
-        })?;
+        answered(raw::open(
+            &singles,
+            &doubles,
+            flags,
+            setup.positions,
+            setup.values,
+            setup.kicks,
+            &mut strip.numbers,
+            &mut strip.words,
+            strip.store,
+            strip.counts,
+        ))?;
         Ok(strip)
     }
 
@@ -245,67 +240,29 @@ impl<'a> Strip<'a> {
         frames: &mut [[f32; 2]],
         gains: &mut [u64],
     ) -> Result<(), Refusal> {
-        let frames = frames.as_flattened_mut();
-        // SAFETY: each pointer is of a slice or an array, and has its length beside it.
-        answered(unsafe {
-            goqhari_run(
-                self.numbers.as_mut_ptr(),
-                NUMBERS,
-                self.words.as_mut_ptr(),
-                WORDS,
-                samples.as_ptr(),
-                samples.len(),
-                drums.into(),
-                frames.as_mut_ptr(),
-                frames.len(),
-                gains.as_mut_ptr(),
-                gains.len(),
-                self.store.as_mut_ptr(),
-                self.store.len(),
-                self.counts.as_mut_ptr(),
-                self.counts.len(),
-            )
-        })
+        answered(raw::run(
+            &mut self.numbers,
+            &mut self.words,
+            samples,
+            drums.into(),
+            frames.as_flattened_mut(),
+            gains,
+            self.store,
+            self.counts,
+        ))
     }
 
     /// Sets where the weather goes from the position reached.
     pub fn latch(&mut self, to: Latch) -> Result<(), Refusal> {
-        // SAFETY: each pointer is of a slice or an array, and has its length beside it.
-        answered(unsafe {
-            goqhari_latch(
-                self.numbers.as_mut_ptr(),
-                NUMBERS,
-                self.words.as_mut_ptr(),
-                WORDS,
-                to.daylight,
-                to.grading,
-                to.rain,
-                to.darkening,
-                self.store.as_ptr(),
-                self.store.len(),
-                self.counts.as_ptr(),
-                self.counts.len(),
-            )
-        })
+        let Latch { daylight, grading, rain, darkening } = to;
+        let (numbers, words) = (&mut self.numbers, &mut self.words);
+        answered(raw::latch(numbers, words, daylight, grading, rain, darkening, self.store, self.counts))
     }
 
     /// Whether the lane and the plate hold only zeros. The last [`LATENCY`] frames may still wait in the ceiling.
     pub fn rest(&self) -> Result<bool, Refusal> {
         let mut rests = [0];
-        // SAFETY: each pointer is of a slice or an array, and has its length beside it.
-        answered(unsafe {
-            goqhari_rest(
-                self.numbers.as_ptr(),
-                NUMBERS,
-                self.words.as_ptr(),
-                WORDS,
-                &mut rests,
-                self.store.as_ptr(),
-                self.store.len(),
-                self.counts.as_ptr(),
-                self.counts.len(),
-            )
-        })?;
+        answered(raw::rest(&self.numbers, &self.words, &mut rests, self.store, self.counts))?;
         Ok(rests[0] != 0)
     }
 }
@@ -329,69 +286,4 @@ fn packed(setup: &Setup<'_>) -> ([f32; 8], [f64; 4], u64) {
         [drive, setup.gain_in, setup.gain_out, setup.send],
         flags.iter().rev().fold(0, |word, &flag| 2 * word + u64::from(flag)),
     )
-}
-
-#[link(name = "goqhari", kind = "static")]
-unsafe extern "C" {
-    fn goqhari_open(
-        singles: &[f32; 8],
-        doubles: &[f64; 4],
-        flags: u64,
-        positions: *const u64,
-        positions_len: usize,
-        values: *const f64,
-        values_len: usize,
-        kicks: *const u64,
-        kicks_len: usize,
-        numbers: *mut f64,
-        numbers_len: usize,
-        words: *mut u64,
-        words_len: usize,
-        store: *mut f64,
-        store_len: usize,
-        counts: *mut u64,
-        counts_len: usize,
-    ) -> u64;
-    fn goqhari_run(
-        numbers: *mut f64,
-        numbers_len: usize,
-        words: *mut u64,
-        words_len: usize,
-        samples: *const f64,
-        samples_len: usize,
-        drums: u64,
-        frames: *mut f32,
-        frames_len: usize,
-        gains: *mut u64,
-        gains_len: usize,
-        store: *mut f64,
-        store_len: usize,
-        counts: *mut u64,
-        counts_len: usize,
-    ) -> u64;
-    fn goqhari_latch(
-        numbers: *mut f64,
-        numbers_len: usize,
-        words: *mut u64,
-        words_len: usize,
-        daylight: f32,
-        grading: u64,
-        rain: f32,
-        darkening: u64,
-        store: *const f64,
-        store_len: usize,
-        counts: *const u64,
-        counts_len: usize,
-    ) -> u64;
-    fn goqhari_rest(
-        numbers: *const f64,
-        numbers_len: usize,
-        words: *const u64,
-        words_len: usize,
-        rests: &mut [u64; 1],
-        store: *const f64,
-        store_len: usize,
-        counts: *const u64,
-        counts_len: usize,
-    ) -> u64;
 }
