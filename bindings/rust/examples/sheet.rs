@@ -11,7 +11,9 @@ use std::fs;
 
 use common::svg::{Axis, COLOURS, Picture};
 use common::{Heard, db};
-use goqhari::{CEILING, GAIN_UNIT, LATENCY, RATE, Refusal, STORE_COUNTS, STORE_NUMBERS, Setup, Strip, Tone, gain};
+use goqhari::{
+    CEILING, GAIN_UNIT, LATENCY, Latch, RATE, Refusal, STORE_COUNTS, STORE_NUMBERS, Setup, Strip, Tone, gain,
+};
 
 const SECOND: f64 = RATE as f64;
 /// The setup that is measured: one tone as good as linear, and nothing that moves but the tape's wow and flutter.
@@ -214,6 +216,47 @@ fn ceiling(figures: &mut String) -> Result<String, Refusal> {
     Ok(picture.finish())
 }
 
+// ---- flipped latches
+
+/// When a side is first not finite under noise of size 1, daylight being latched at once from one end to the other, every so many samples.
+fn first_not_finite(corners: [f32; 2], every: usize, seconds: usize) -> Result<Option<f64>, Refusal> {
+    let setup = Setup { tone: Tone::Graded { corners, drives: [1.6; 2] }, ..PLAIN };
+    let (mut store, mut counts) = (vec![0.0; STORE_NUMBERS], vec![0; STORE_COUNTS]);
+    let mut strip = Strip::open(&setup, &mut store, &mut counts)?;
+    let mut heard = Heard::default();
+    let mut state = 0u64;
+    for flip in 0..seconds * RATE as usize / every {
+        let noise: Vec<f64> = (0..every)
+            .map(|_| {
+                state = state.wrapping_mul(6_364_136_223_846_793_005).wrapping_add(1_442_695_040_888_963_407);
+                (state >> 40) as f64 / 8_388_608.0 - 1.0
+            })
+            .collect();
+        heard.run(&mut strip, &noise, true)?;
+        strip.latch(Latch { daylight: (flip % 2) as f32, grading: 0, rain: 0.0, darkening: 0 })?;
+    }
+    let first = heard.frames.iter().position(|frame| frame.iter().any(|side| !side.is_finite()));
+    Ok(first.map(|at| at as f64 / SECOND))
+}
+
+fn flips(table: &mut String) -> Result<(), Refusal> {
+    let (seconds, lengths) = (5, [8, 16, 32, 64, 128]);
+    *table += "| corners, flipped every |";
+    lengths.iter().for_each(|every| *table += &format!(" {every} samples |"));
+    *table += "\n|---|---|---|---|---|---|\n";
+    for corners in [[20.0, 20_000.0], [200.0, 20_000.0], [20.0, 2_000.0], [2_000.0, 8_000.0]] {
+        let _ = write!(table, "| {} and {} Hz |", corners[0], corners[1]);
+        for every in lengths {
+            let _ = match first_not_finite(corners, every, seconds)? {
+                Some(at) => write!(table, " {at:.2} s |"),
+                None => write!(table, " none in {seconds} s |"),
+            };
+        }
+        table.push('\n');
+    }
+    Ok(())
+}
+
 // ---- the sheet
 
 const BEGIN: &str = "<!-- measured by make sheet -->\n";
@@ -254,6 +297,9 @@ fn main() -> Result<(), Box<dyn Error>> {
         fs::write(format!("{folder}/sheet/{name}.svg"), measure(&mut own)?)?;
         let _ = write!(figures, "\n### {title}\n\n{how}\n\n![{title}](sheet/{name}.svg)\n\n{own}");
     }
+    figures += "\n### Flipped latches\n\nWhen the first NaN or infinity is delivered, of noise of size 1 at drive 1.6, send 0, daylight latched with \
+                length 0 from one corner to the other and back:\n\n";
+    flips(&mut figures)?;
     fs::write(&path, format!("{before}{BEGIN}{figures}\n{END}{after}"))?;
     Ok(())
 }
