@@ -1,19 +1,30 @@
-# test: the layout, the part beside the Rust, then the verdict, whose last line is 'N passed, 0 failed'.
-# demo: what there is to see. The replays' tallies, of the part's answers beside kept lists of the oracle's.
-# lib: build/libgoqhari.a, for C and C++ by include/goqhari.h, proved before it is built.
-.PHONY: test demo lib
+# test: the layout, the part beside the Rust, what a maker links, then the verdict, whose last line is 'N passed, 0 failed'.
+# lib: build/libgoqhari.a, for C and C++ by include/goqhari.h and for Rust by bindings/rust, proved before it is built.
+# demo: a phrase through it, to hear and to see. sheet: the data sheet's pictures and figures, measured anew.
+# replay: the replays' tallies, of the part's answers beside kept lists of the oracle's.
+.PHONY: test lib demo sheet replay
 
 test:
 	rt fmt --check
 	harness/compare 1 20
+	bindings/test
 	rt ci
 
-demo:
-	rt check replay replay_stages
-	target/bin/replay < crates/replay/stdin
-	target/bin/replay_stages < crates/replay_stages/stdin
+lib: build/libgoqhari.a
 
-lib:
+# proved again where anything that it is made of is newer
+build/libgoqhari.a: crates.txt $(shell find crates -name '*.rt' -o -name '*.antt')
 	rt staticlib goqhari
 	mkdir -p build
 	cp target/staticlib/libgoqhari.a build/libgoqhari.a
+
+demo: lib
+	bindings/example demo build/demo.wav build/demo.svg
+
+sheet: lib
+	bindings/example sheet docs
+
+replay:
+	rt check replay replay_stages
+	target/bin/replay < crates/replay/stdin
+	target/bin/replay_stages < crates/replay_stages/stdin

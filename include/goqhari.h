@@ -149,6 +149,14 @@ struct goqhari_setup {
     float rain;         /* at the start: 0 to 1 */
 };
 
+/*
+ * A setup to begin with: the keys' lane of the Rust that the part is ported from, under its default weather: graded, ducked and darkened
+ * by rain, with its drive of 1.6 and its send of -0.3 dB, by day and dry. Its corners are in no published file; 2,000 Hz by night is two
+ * octaves below day's 8,000 Hz, at which the tape's own rolloff at 6,500 Hz has the say.
+ */
+#define GOQHARI_SETUP_DEFAULT \
+    {1, 0.0f, 0.0, 2000.0f, 8000.0f, 1.6f, 1.6f, 0, 0.0f, 0.0f, 1, 1, 1.0, 1.0, 0.966, 1.0f, 0.0f}
+
 /* The memory of a strip, some 425 KiB: for a static, the heap or a pool rather than a small stack. */
 struct goqhari_strip {
     double numbers[GOQHARI_NUMBERS];

@@ -2,69 +2,8 @@
 
 use crate::setup::{Numbers, Setup};
 
-unsafe extern "C" {
-    fn goqhari_open(
-        singles: &[f32; 8],
-        doubles: &[f64; 4],
-        flags: u64,
-        positions: *const u64,
-        positions_len: usize,
-        values: *const f64,
-        values_len: usize,
-        kicks: *const u64,
-        kicks_len: usize,
-        numbers: *mut f64,
-        numbers_len: usize,
-        words: *mut u64,
-        words_len: usize,
-        store: *mut f64,
-        store_len: usize,
-        counts: *mut u64,
-        counts_len: usize,
-    ) -> u64;
-    fn goqhari_run(
-        numbers: *mut f64,
-        numbers_len: usize,
-        words: *mut u64,
-        words_len: usize,
-        samples: *const f64,
-        samples_len: usize,
-        drums: u64,
-        frames: *mut f32,
-        frames_len: usize,
-        gains: *mut u64,
-        gains_len: usize,
-        store: *mut f64,
-        store_len: usize,
-        counts: *mut u64,
-        counts_len: usize,
-    ) -> u64;
-    fn goqhari_latch(
-        numbers: *mut f64,
-        numbers_len: usize,
-        words: *mut u64,
-        words_len: usize,
-        daylight: f32,
-        grading: u64,
-        rain: f32,
-        darkening: u64,
-        store: *const f64,
-        store_len: usize,
-        counts: *const u64,
-        counts_len: usize,
-    ) -> u64;
-    fn goqhari_rest(
-        numbers: *const f64,
-        numbers_len: usize,
-        words: *const u64,
-        words_len: usize,
-        rests: &mut [u64; 1],
-        store: *const f64,
-        store_len: usize,
-        counts: *const u64,
-        counts_len: usize,
-    ) -> u64;
-}
+#[path = "../../bindings/rust/src/raw.rs"]
+mod raw;
 
 /// The header's sizes: numbers and words of a packed strip, and the stores'.
 pub const NUMBERS: usize = 85;
@@ -88,84 +27,21 @@ impl Lent<'_> {
 
     /// With numbers and flags of one's own; the lists are the setup's.
     pub fn open_by(self, singles: &[f32; 8], doubles: &[f64; 4], flags: u64, lists: &Setup) -> u64 {
-        unsafe {
-            goqhari_open(
-                singles,
-                doubles,
-                flags,
-                lists.points.as_ptr(),
-                lists.points.len(),
-                lists.values.as_ptr(),
-                lists.values.len(),
-                lists.kicks.as_ptr(),
-                lists.kicks.len(),
-                self.numbers.as_mut_ptr(),
-                self.numbers.len(),
-                self.words.as_mut_ptr(),
-                self.words.len(),
-                self.store.as_mut_ptr(),
-                self.store.len(),
-                self.counts.as_mut_ptr(),
-                self.counts.len(),
-            )
-        }
+        let Setup { points, values, kicks, .. } = lists;
+        let Self { numbers, words, store, counts } = self;
+        raw::open(singles, doubles, flags, points, values, kicks, numbers, words, store, counts)
     }
 
     pub fn run(self, samples: &[f64], drums: u64, frames: &mut [f32], gains: &mut [u64]) -> u64 {
-        unsafe {
-            goqhari_run(
-                self.numbers.as_mut_ptr(),
-                self.numbers.len(),
-                self.words.as_mut_ptr(),
-                self.words.len(),
-                samples.as_ptr(),
-                samples.len(),
-                drums,
-                frames.as_mut_ptr(),
-                frames.len(),
-                gains.as_mut_ptr(),
-                gains.len(),
-                self.store.as_mut_ptr(),
-                self.store.len(),
-                self.counts.as_mut_ptr(),
-                self.counts.len(),
-            )
-        }
+        raw::run(self.numbers, self.words, samples, drums, frames, gains, self.store, self.counts)
     }
 
     pub fn latch(self, [daylight, rain]: [f32; 2], [grading, darkening]: [u64; 2]) -> u64 {
-        unsafe {
-            goqhari_latch(
-                self.numbers.as_mut_ptr(),
-                self.numbers.len(),
-                self.words.as_mut_ptr(),
-                self.words.len(),
-                daylight,
-                grading,
-                rain,
-                darkening,
-                self.store.as_ptr(),
-                self.store.len(),
-                self.counts.as_ptr(),
-                self.counts.len(),
-            )
-        }
+        raw::latch(self.numbers, self.words, daylight, grading, rain, darkening, self.store, self.counts)
     }
 
     pub fn rest(self, rests: &mut [u64; 1]) -> u64 {
-        unsafe {
-            goqhari_rest(
-                self.numbers.as_ptr(),
-                self.numbers.len(),
-                self.words.as_ptr(),
-                self.words.len(),
-                rests,
-                self.store.as_ptr(),
-                self.store.len(),
-                self.counts.as_ptr(),
-                self.counts.len(),
-            )
-        }
+        raw::rest(self.numbers, self.words, rests, self.store, self.counts)
     }
 }
 
