@@ -6,6 +6,7 @@ mod Widening
 mod Rounded
 mod Closest
 mod Narrowing
+mod Inplace
 mod Cases
 mod Powers
 pub mod Floors

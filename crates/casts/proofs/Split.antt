@@ -35,7 +35,7 @@ not-false : (b : Bool) → b ≡ false → T (not b)
 not-false true h = absurd (true≢false h)
 not-false false h = tt
 
-rest-le : (f : Format) (x : Float) → T (fits f x) → T (not (isNan x)) → toBits f x % top f ≤ ones f * hid f
+pub rest-le : (f : Format) (x : Float) → T (fits f x) → T (not (isNan x)) → toBits f x % top f ≤ ones f * hid f
 rest-le f x t n =
     ltb-false (ones f * hid f) (toBits f x % top f)
     (sym (nanBits-above f (toBits f x)) ∙ nanBits-is f (toBits f x) ∙ ap isNan (ofBits-toBits f x t) ∙ is-false (isNan x) n)
@@ -83,3 +83,6 @@ reads-nan f b h = sym (is-nan (ofBits f b) (sym (nanBits-is f b) ∙ nanBits-abo
 
 pub reads-number : (f : Format) (b : ℕ) → b % top f ≤ ones f * hid f → T (not (nanBits f b))
 reads-number f b h = not-false (nanBits f b) (nanBits-above f b ∙ le-ltb (ones f * hid f) (b % top f) h)
+
+pub number-no-nan : (f : Format) (b : ℕ) → b % top f ≤ ones f * hid f → T (not (isNan (ofBits f b)))
+number-no-nan f b h = subst (λ (x : Bool). T (not x)) (nanBits-is f b) (reads-number f b h)

@@ -3,3 +3,4 @@ pub mod Part
 pub mod Whole
 pub mod Line
 pub mod Rest
+mod Mask

@@ -1,7 +1,7 @@
 // A delay line (delay.rs): its ring is a part of its stage's part of the sample store. `push`, `at` and `tap` work on
 // the ring alone; a DelayLine lends them its own places. It may use casts.
 ghost use mathlib.Core.Path.{_≡_};
-ghost use Prim.Native.Nat.{_+_, _<_, _≤_};
+ghost use Prim.Native.Nat.{_+_, _%_, _<_, _≤_};
 ghost use lib.ListN.{length};
 ghost use Rattle.delay.specs.Delay.{pushed, tapped, largerOf, lesserOf, tapOf, Reach, allZero, linePush, lineAt, lineTap};
 
@@ -11,12 +11,24 @@ pub struct DelayLine {
     pub ring: usize,
 }
 
+// n reduced into a ring. Every line's has 2^k places, and then a mask does for a division.
+fn place(n: u64, ring: usize) -> usize
+    requires { ⌜ 0 < ring ⌝ }
+    ensures { λ r. ⌜ (r ≡ n % ring) × (r < ring) ⌝ }
+{
+    let mask = ring as u64 - 1;
+    if ring as u64 & mask == 0 {
+        return (n & mask) as usize;
+    }
+    (n % (ring as u64)) as usize
+}
+
 // Writes x as the newest sample, the count of those before it being written.
 pub fn push(ring: &mut [f64], written: u64, x: f64)
     requires { ⌜ 0 < length (now ring) ⌝ }
     ensures { λ _. ⌜ now (ring .exit) ≡ pushed (now (ring .entry)) written x ⌝ }
 {
-    let i = (written % (ring.len() as u64)) as usize;
+    let i = place(written, ring.len());
     ring[i] = x;
 }
 
@@ -26,7 +38,7 @@ pub fn at(ring: &[f64], written: u64, delay: u64) -> f64
     ensures { λ r. ⌜ r ≡ tapped (now (ring .entry)) written delay ⌝ }
 {
     let n = std::num::wrapping_sub_u64(written, delay + 1);
-    let i = (n % (ring.len() as u64)) as usize;
+    let i = place(n, ring.len());
     ring[i]
 }
 

@@ -3,6 +3,7 @@ pub mod Parts
 pub mod Room
 pub mod Calls
 pub mod Turns
+mod Swing
 pub mod InputHeld
 pub mod HalfHeld
 pub mod Theorem

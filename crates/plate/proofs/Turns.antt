@@ -1,11 +1,15 @@
--- The plate's loop over a block, one list in and two out: what holds after i samples, and that a turn keeps it. Assumes nothing.
+-- The plate's loops over a block, one list in and two out: what holds after i samples, and that a sample and a group of samples keep it. Assumes nothing.
 use mathlib.Core.Path.{_≡_, refl, sym, ap, _∙_}
-use Prim.Native.Nat.{ℕ, _+_, _<_, _≤_}
-use mathlib.Core.List.{List, map}
-use lib.ListN.{length, getD, set, length-map}
+use Prim.Native.Nat.{ℕ, zero, suc, _+_, _-_, _<_, _≤_}
+use native.Mathlib.Omega.{arith}
+use mathlib.Core.List.{List, [], _∷_, map}
+use lib.ListN.{length, getD, set, take, drop, length-map}
+use lib.Seq.{drop-drop}
+use borrow.Rule.Slice.PartMut.{midOf, putMid, mid-len, drop-put}
 use lib.Ieee.{Float, nan}
 use Rattle.stage.specs.Stage.{Step, ran, outs}
 use Rattle.stage.proofs.Laws.{outs-length}
+use Rattle.stage.proofs.Block.{gone-outs, gone-block, wrote-block}
 use Rattle.stage.proofs.Loop.{Wrote, Ahead, Gone, wrote-start, wrote-done, ahead-start, ahead-turn, ahead-read, gone-start, gone-turn, gone-write-of, gone-done}
 use Rattle.stream.specs.declared.Frame.{Frame}
 use Rattle.rate.specs.declared.PlateRate.{PlateRate}
@@ -18,6 +22,21 @@ pub record Plating (r : PlateRate) (n : ℕ) (s₀ : PlateIn) (xs : List Float) 
   pub right : Wrote (map (λ (f : Frame). f .right) (outs (plateStepOn r) n s₀ xs)) rs i
   pub sized : length rs ≡ length ls
   pub kept : length (s .part) ≡ length (s₀ .part)
+
+module _ {Y Z : Type 0} (g : Y → Z) where
+  map-take : (k : ℕ) (ys : List Y) → map g (take k ys) ≡ take k (map g ys)
+  map-take zero ys = refl
+  map-take (suc k) [] = refl
+  map-take (suc k) (y ∷ ys) = ap (λ (t : List Z). g y ∷ t) (map-take k ys)
+
+  map-drop : (k : ℕ) (ys : List Y) → map g (drop k ys) ≡ drop k (map g ys)
+  map-drop zero ys = refl
+  map-drop (suc k) [] = refl
+  map-drop (suc k) (y ∷ ys) = map-drop k ys
+
+later : (i e : ℕ) (ls xs : List Float) → i ≤ e → drop i ls ≡ drop i xs → drop e ls ≡ drop e xs
+later i e ls xs h q = let z : i + (e - i) ≡ e = omega arith in
+    ap (λ (j : ℕ). drop j ls) (sym z) ∙ sym (drop-drop (e - i) i ls) ∙ ap (drop (e - i)) q ∙ drop-drop (e - i) i xs ∙ ap (λ (j : ℕ). drop j xs) z
 
 module _ (r : PlateRate) (n : ℕ) (s₀ : PlateIn) (xs : List Float) where
   all : {Z : Type 0} (p : Frame → Z) → length (map p (outs (plateStepOn r) n s₀ xs)) ≡ length xs
@@ -48,6 +67,30 @@ module _ (r : PlateRate) (n : ℕ) (s₀ : PlateIn) (xs : List Float) where
         right = h₂;
         sized = h₂ .sized ∙ all (λ (f : Frame). f .right) ∙ sym (l .sized ∙ all (λ (f : Frame). f .left));
         kept = k ∙ p .kept;
+      }
+
+  pub plate-group : (s : PlateIn) (ls rs : List Float) (i e : ℕ) (t : PlateIn) (ls′ rs′ : List Float) → Plating r n s₀ xs s ls rs i → i ≤ e → e ≤ length ls → length (t .part) ≡ length (s .part)
+      → t ≡ ran (plateStepOn r) (n + i) s (midOf i (e - i) ls)
+      → ls′ ≡ map (λ (f : Frame). f .left) (outs (plateStepOn r) (n + i) s (midOf i (e - i) ls))
+      → rs′ ≡ map (λ (f : Frame). f .right) (outs (plateStepOn r) (n + i) s (midOf i (e - i) ls))
+      → Plating r n s₀ xs t (putMid i (e - i) ls ls′) (putMid i (e - i) rs rs′) e
+  plate-group s ls rs i e t ls′ rs′ p h k z q₁ q₂ q₃ =
+      let k′ : e ≤ length xs = rw (p .ahead .sized) at k in
+      let same : midOf i (e - i) ls ≡ take (e - i) (drop i xs) = ap (take (e - i)) (p .ahead .same) in
+      let told = gone-outs (plateStepOn r) n s₀ xs s i e (p .gone) h k′ in
+      let d = p .sized in
+      let side : (g : Frame → Float) → map g (outs (plateStepOn r) (n + i) s (midOf i (e - i) ls)) ≡ take (e - i) (drop i (map g (outs (plateStepOn r) n s₀ xs)))
+      = λ g. ap (λ (b : List Float). map g (outs (plateStepOn r) (n + i) s b)) same ∙ ap (map g) told ∙ map-take g (e - i) (drop i (outs (plateStepOn r) n s₀ xs)) ∙ ap (take (e - i)) (map-drop g i (outs (plateStepOn r) n s₀ xs)) in
+      let l = wrote-block _ ls ls′ i e (p .left) h (rw (all (λ (f : Frame). f .left)) k′) (q₂ ∙ side (λ (f : Frame). f .left)) in
+      let m = wrote-block _ rs rs′ i e (p .right) h (rw (all (λ (f : Frame). f .right)) k′) (q₃ ∙ side (λ (f : Frame). f .right)) in
+      let few : length ls′ ≡ e - i = ap length q₂ ∙ length-map (outs (plateStepOn r) (n + i) s (midOf i (e - i) ls)) (λ (f : Frame). f .left) ∙ outs-length (plateStepOn r) (n + i) s (midOf i (e - i) ls) ∙ mid-len i e ls k in
+      record {
+        gone = gone-block (plateStepOn r) n s₀ xs s i e (p .gone) h k′ t (q₁ ∙ ap (ran (plateStepOn r) (n + i) s) same);
+        ahead = record { sized = l .sized ∙ all (λ (f : Frame). f .left); same = drop-put i e ls ls′ h k few ∙ later i e ls xs h (p .ahead .same) };
+        left = l;
+        right = m;
+        sized = m .sized ∙ all (λ (f : Frame). f .right) ∙ sym (l .sized ∙ all (λ (f : Frame). f .left));
+        kept = z ∙ p .kept;
       }
 
   pub plate-done : (s : PlateIn) (ls rs : List Float) (i : ℕ) → Plating r n s₀ xs s ls rs i → length ls ≤ i

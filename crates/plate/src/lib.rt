@@ -1,7 +1,8 @@
 // The plate (plate.rs): Dattorro's plate-class reverberator, on its own part of the sample store. A line's ring is a
-// place of that part; the dampings and the high-passes are kept by value. It may use casts, stage, elementary, stream,
-// onepole, biquad, delay, rate and allpass.
+// place of that part; the dampings and the high-passes are kept by value. It may use casts, stage, elementary, eight,
+// stream, onepole, biquad, delay, rate and allpass.
 use biquad::Section;
+use eight::Eight;
 use onepole::OnePole;
 use rate::HalfRate;
 use rate::InputRate;
@@ -13,11 +14,13 @@ ghost use mathlib.Core.List.{map};
 ghost use Prim.Native.Nat.{_+_, _<_, _≤_};
 ghost use lib.ListN.{length};
 ghost use Rattle.stream.specs.declared.Frame.{Frame};
+ghost use Rattle.casts.specs.Arithmetic.{_⊗_};
+ghost use Rattle.eight.specs.Each.{each, eightOf, listed};
 ghost use Rattle.stage.specs.Stage.{ran, outs};
 ghost use Rattle.allpass.specs.Allpass.{gave};
 ghost use Rattle.rate.specs.Plate.{InputUsable, HalfUsable, TapsUsable, PlateUsable};
 ghost use Rattle.plate.specs.Machine.{turnOf, stretchOf};
-ghost use Rattle.plate.specs.Plate.{inputOn, halfIn, halfOn, leavingOn, tapsOn, tankIn, fedOn, halvesOn, returnedOn, tankOn, plateOn, plateStepOn, freshOn, quietOf, atRestOn, partOf};
+ghost use Rattle.plate.specs.Plate.{Stretched, inputOn, halfIn, halfOn, leavingOn, tapsOn, tankIn, fedOn, halvesOn, returnedOn, tankOn, plateOn, plateStepOn, freshOn, quietOf, atRestOn, partOf};
 
 const INPUT_DIFFUSION_1: f64 = 0.75;
 
@@ -148,6 +151,61 @@ fn stretch(rate: PlateRate, n: u64) -> Frame
     }
 }
 
+// The stretches of eight frames.
+struct Stretches {
+    left: [f64; 8],
+    right: [f64; 8],
+}
+
+// The LFO's angles at the eight frames from n on.
+fn angles(sr: u32, n: u64) -> Eight
+    requires { ⌜ n ≤ 4294967296 ⌝ }
+    ensures { λ r. ⌜ r ≡ eightOf (λ j. turnOf sr (n + j)) ⌝ }
+{
+    Eight {
+        a: turn(sr, n + 0),
+        b: turn(sr, n + 1),
+        c: turn(sr, n + 2),
+        d: turn(sr, n + 3),
+        e: turn(sr, n + 4),
+        f: turn(sr, n + 5),
+        g: turn(sr, n + 6),
+        h: turn(sr, n + 7),
+    }
+}
+
+fn scaled(k: f64, x: Eight) -> [f64; 8]
+    ensures { λ r. ⌜ r ≡ listed (each (λ v. k ⊗ v) x) ⌝ }
+{
+    [
+        k * x.a,
+        k * x.b,
+        k * x.c,
+        k * x.d,
+        k * x.e,
+        k * x.f,
+        k * x.g,
+        k * x.h,
+    ]
+}
+
+// The stretches of the count frames from n on. SIN and COS of eight angles at once cost as much as of three one by one.
+fn lfo(rate: PlateRate, n: u64, count: usize) -> Stretches
+    requires { ⌜ (n ≤ 4294967296) × (count ≤ 8) ⌝ }
+    ensures { λ r. ⌜ Stretched rate n count (r .left) (r .right) ⌝ }
+{
+    if count < 2 {
+        let one = stretch(rate, n);
+        let left = [one.left; 8];
+        let right = [one.right; 8];
+        return Stretches { left, right };
+    }
+    let angles = angles(rate.sr, n);
+    let left = scaled(rate.excursion, eight::sin_eight(angles));
+    let right = scaled(rate.excursion, eight::cos_eight(angles));
+    Stretches { left, right }
+}
+
 // What each half is fed: the input, and what leaves the other.
 fn fed(rate: PlateRate, part: &[f64], x: f64, n: u64) -> Frame
     requires { ⌜ PlateUsable rate ⌝ }
@@ -223,28 +281,43 @@ fn returned(rate: PlateRate, part: &[f64], n: u64) -> Frame
 }
 
 // The tank's step: x comes from the input lattices.
-fn tank_step(rate: PlateRate, tank: Tank, part: &mut [f64], x: f64, n: u64) -> TankGave
+fn tank_step(
+    rate: PlateRate,
+    tank: Tank,
+    part: &mut [f64],
+    x: f64,
+    stretch: Frame,
+    n: u64,
+) -> TankGave
     requires { ⌜ PlateUsable rate ⌝ }
+    requires { ⌜ stretch ≡ stretchOf rate n ⌝ }
     requires { ⌜ (length (now part) ≡ rate .left .places + rate .right .places) × (n < 4294967296) ⌝ }
     ensures { λ r. ⌜ gave (tankIn (r .tank) (now (part .exit))) (r .frame) ≡ tankOn rate n (tankIn tank (now (part .entry))) x ⌝ }
 {
     let f = fed(rate, part, x, n);
-    let s = stretch(rate, n);
-    let tank = halves(rate, tank, part, f, s, n);
+    let tank = halves(rate, tank, part, f, stretch, n);
     let frame = returned(rate, part, n + 1);
     TankGave { tank, frame }
 }
 
 // One sample: x is what is sent, and n the samples before it.
-pub fn step(rate: PlateRate, plate: Plate, part: &mut [f64], x: f64, n: u64) -> PlateGave
+fn step(
+    rate: PlateRate,
+    plate: Plate,
+    part: &mut [f64],
+    x: f64,
+    stretch: Frame,
+    n: u64,
+) -> PlateGave
     requires { ⌜ PlateUsable rate ⌝ }
+    requires { ⌜ stretch ≡ stretchOf rate n ⌝ }
     requires { ⌜ (length (now part) ≡ partOf rate) × (n < 4294967296) ⌝ }
     ensures { λ r. ⌜ gave (plateOn (r .plate) (now (part .exit))) (r .frame) ≡ plateStepOn rate n (plateOn plate (now (part .entry))) x ⌝ }
 {
     let k = rate.input.places;
     let e = part.len();
     let y = input(rate.input, &mut part[0..k], x, n);
-    let t = tank_step(rate, plate.tank, &mut part[k..e], y, n);
+    let t = tank_step(rate, plate.tank, &mut part[k..e], y, stretch, n);
     let left = plate.left.step(t.frame.left);
     let right = plate.right.step(t.frame.right);
     let tank = t.tank;
@@ -255,6 +328,49 @@ pub fn step(rate: PlateRate, plate: Plate, part: &mut [f64], x: f64, n: u64) -> 
             right: right.y1,
         },
     }
+}
+
+// At most eight samples: what is sent lies in left, and the two sides take its place and right's.
+fn group(
+    rate: PlateRate,
+    plate: Plate,
+    part: &mut [f64],
+    left: &mut [f64],
+    right: &mut [f64],
+    n: u64,
+) -> Plate
+    requires { ⌜ PlateUsable rate ⌝ }
+    requires { ⌜ length (now left) ≤ 8 ⌝ }
+    requires { ⌜ (length (now part) ≡ partOf rate) × (length (now right) ≡ length (now left)) × (n + length (now left) ≤ 4294967296) ⌝ }
+    ensures { λ r. ⌜ plateOn r (now (part .exit)) ≡ ran (plateStepOn rate) n (plateOn plate (now (part .entry))) (now (left .entry)) ⌝ }
+    ensures { λ r. ⌜ now (left .exit) ≡ map (λ (f : Frame). f .left) (outs (plateStepOn rate) n (plateOn plate (now (part .entry))) (now (left .entry))) ⌝ }
+    ensures { λ r. ⌜ now (right .exit) ≡ map (λ (f : Frame). f .right) (outs (plateStepOn rate) n (plateOn plate (now (part .entry))) (now (left .entry))) ⌝ }
+{
+    let stretches = lfo(rate, n, left.len());
+    let lefts = stretches.left;
+    let rights = stretches.right;
+    let mut plate = plate;
+    let mut i = 0;
+    while i < left.len() {
+        let stretch = Frame {
+            left: lefts[i],
+            right: rights[i],
+        };
+        let g = step(rate, plate, part, left[i], stretch, n + i as u64);
+        plate = g.plate;
+        left[i] = g.frame.left;
+        right[i] = g.frame.right;
+        i += 1;
+    }
+    plate
+}
+
+// Where the group ends that starts at i, of `most` samples.
+fn group_end(i: usize, most: usize) -> usize
+    requires { ⌜ i < most ⌝ }
+    ensures { λ r. ⌜ (i < r) × (r ≤ most) × (r ≤ i + 8) ⌝ }
+{
+    if most - i < 8 { most } else { i + 8 }
 }
 
 // A block: what is sent lies in left, and the two sides take its place and right's.
@@ -275,11 +391,16 @@ pub fn block(
     let mut plate = plate;
     let mut i = 0;
     while i < left.len() {
-        let g = step(rate, plate, part, left[i], n + i as u64);
-        plate = g.plate;
-        left[i] = g.frame.left;
-        right[i] = g.frame.right;
-        i += 1;
+        let e = group_end(i, left.len());
+        plate = group(
+            rate,
+            plate,
+            part,
+            &mut left[i..e],
+            &mut right[i..e],
+            n + i as u64,
+        );
+        i = e;
     }
     plate
 }

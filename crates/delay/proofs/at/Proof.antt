@@ -2,7 +2,6 @@ use Rattle.delay.specs.Delay.{back}
 use borrow.Author.Needs.{needs, scaled-fits}
 use mathlib.Core.Path.{_≡_}
 use native.Mathlib.Omega.{arith}
-use native.Mathlib.Nat.{mod-lt}
 use Rattle.delay.proofs.at.Statement.{statement}
 use Rattle.delay.proofs.at.Tie as tie
 
@@ -12,19 +11,21 @@ add-wrapping-sub-u64 c = search needs
 wrapping-sub-u64-requires : tie.Need-wrapping-sub-u64-requires
 wrapping-sub-u64-requires c κs = search needs
 
-rem-i : tie.Need-rem-i
-rem-i c = search needs
+place-requires : tie.Need-place-requires
+place-requires c κs = search needs
 
 mul-result : tie.Need-mul-result
-mul-result c = scaled-fits _ _ 8 (mod-lt (c .wrapping-sub-u64 .result) (c .before .before .pre .0)) (c .before .before .good .0 .1)
+mul-result c = scaled-fits _ _ 8 (c .place .ensures .1) (c .before .before .before .good .0 .1)
 
 shared-slice-read-result : tie.Need-shared-slice-read-result
-shared-slice-read-result c = mod-lt (c .before .wrapping-sub-u64 .result) (c .before .before .before .pre .0)
+shared-slice-read-result c = c .before .place .ensures .1
 
 returns : tie.Need-returns
-returns c = let s = c .before .before .before in
-    let e : c .before .wrapping-sub-u64 .result ≡ back (s .args .written) (s .args .delay) = omega (arith, c .before .wrapping-sub-u64 .ensures) in
-    rw e
+returns c =
+    let s = c .before .before .before .before in
+    let w = c .before .before .wrapping-sub-u64 in
+    let e : w .result ≡ back (s .args .written) (s .args .delay) = omega (arith, w .ensures) in
+    rw (c .before .place .ensures .0) (rw e)
 
 pub at-spec : {M : Type 1} → statement M
 at-spec =
@@ -32,7 +33,7 @@ at-spec =
     (tie.spec
     add-wrapping-sub-u64
     wrapping-sub-u64-requires
-    rem-i
+    place-requires
     mul-result
     shared-slice-read-result
     returns)

@@ -1,9 +1,9 @@
 use borrow.Author.Needs.{needs}
+use native.Mathlib.Omega.{arith}
 use Prim.Native.Nat.{_-_}
 use lib.ListN.{length}
-use Rattle.allpass.specs.Allpass.{gave}
 use Rattle.plate.specs.Plate.{plateOn}
-use Rattle.plate.proofs.Turns.{Plating, plate-start, plate-turn, plate-done}
+use Rattle.plate.proofs.Turns.{Plating, plate-start, plate-group, plate-done}
 use Rattle.plate.proofs.block.Statement.{statement}
 use Rattle.plate.proofs.block.Tie as tie
 
@@ -16,39 +16,46 @@ abbrev μ-loop : tie.MeasureT-loop
 loop-holds : tie.Need-loop-holds Inv-loop μ-loop
 loop-holds c = let s = c .before .before .before in plate-start (s .args .rate) _ _ _ _ (s .pre .1 .1)
 
-mul-step : tie.Need-mul-step Inv-loop μ-loop
-mul-step c = search needs
+group-end-requires : tie.Need-group-end-requires Inv-loop μ-loop
+group-end-requires c κs = search needs
 
-slice-read-step : tie.Need-slice-read-step Inv-loop μ-loop
-slice-read-step c = search needs
+mul-group : tie.Need-mul-group Inv-loop μ-loop
+mul-group c = omega (arith, c .before .group-end .ensures .0, c .before .group-end .ensures .1, c .before .group-end .ensures .2, c .before .before .loop-test .taken, c .before .before .before .loop .inv .ahead .sized, c .before .before .before .loop .inv .sized, c .before .before .before .before .before .before .before .pre .1 .2, c .before .before .before .before .before .before .before .good .1 .1 .1 .0 .1, c .before .before .before .before .before .before .before .good .1 .1 .1 .1 .0 .1)
 
-add-step : tie.Need-add-step Inv-loop μ-loop
-add-step c = search needs
+sub-group : tie.Need-sub-group Inv-loop μ-loop
+sub-group c = omega (arith, c .before .group-end .ensures .0, c .before .group-end .ensures .1, c .before .group-end .ensures .2, c .before .before .loop-test .taken, c .before .before .before .loop .inv .ahead .sized, c .before .before .before .loop .inv .sized, c .before .before .before .before .before .before .before .pre .1 .2, c .before .before .before .before .before .before .before .good .1 .1 .1 .0 .1, c .before .before .before .before .before .before .before .good .1 .1 .1 .1 .0 .1)
 
-step-requires : tie.Need-step-requires Inv-loop μ-loop
-step-requires c κs = search needs
+part-group-start : tie.Need-part-group-start Inv-loop μ-loop
+part-group-start c = omega (arith, c .before .group-end .ensures .0, c .before .group-end .ensures .1, c .before .group-end .ensures .2, c .before .before .loop-test .taken, c .before .before .before .loop .inv .ahead .sized, c .before .before .before .loop .inv .sized, c .before .before .before .before .before .before .before .pre .1 .2, c .before .before .before .before .before .before .before .good .1 .1 .1 .0 .1, c .before .before .before .before .before .before .before .good .1 .1 .1 .1 .0 .1)
 
-mul-left : tie.Need-mul-left Inv-loop μ-loop
-mul-left c = search needs
+part-group-end : tie.Need-part-group-end Inv-loop μ-loop
+part-group-end c = omega (arith, c .before .group-end .ensures .0, c .before .group-end .ensures .1, c .before .group-end .ensures .2, c .before .before .loop-test .taken, c .before .before .before .loop .inv .ahead .sized, c .before .before .before .loop .inv .sized, c .before .before .before .before .before .before .before .pre .1 .2, c .before .before .before .before .before .before .before .good .1 .1 .1 .0 .1, c .before .before .before .before .before .before .before .good .1 .1 .1 .1 .0 .1)
 
-slice-write-left : tie.Need-slice-write-left Inv-loop μ-loop
-slice-write-left c = search needs
+mul-group-2 : tie.Need-mul-group-2 Inv-loop μ-loop
+mul-group-2 c = omega (arith, c .before .before .group-end .ensures .0, c .before .before .group-end .ensures .1, c .before .before .group-end .ensures .2, c .before .before .before .loop-test .taken, c .before .before .before .before .loop .inv .ahead .sized, c .before .before .before .before .loop .inv .sized, c .before .before .before .before .before .before .before .before .pre .1 .2, c .before .before .before .before .before .before .before .before .good .1 .1 .1 .0 .1, c .before .before .before .before .before .before .before .before .good .1 .1 .1 .1 .0 .1)
 
-mul-right : tie.Need-mul-right Inv-loop μ-loop
-mul-right c = search needs
+sub-group-2 : tie.Need-sub-group-2 Inv-loop μ-loop
+sub-group-2 c = omega (arith, c .before .before .group-end .ensures .0, c .before .before .group-end .ensures .1, c .before .before .group-end .ensures .2, c .before .before .before .loop-test .taken, c .before .before .before .before .loop .inv .ahead .sized, c .before .before .before .before .loop .inv .sized, c .before .before .before .before .before .before .before .before .pre .1 .2, c .before .before .before .before .before .before .before .before .good .1 .1 .1 .0 .1, c .before .before .before .before .before .before .before .before .good .1 .1 .1 .1 .0 .1)
 
-slice-write-right : tie.Need-slice-write-right Inv-loop μ-loop
-slice-write-right c = search needs
+part-group-start-2 : tie.Need-part-group-start-2 Inv-loop μ-loop
+part-group-start-2 c = omega (arith, c .before .before .group-end .ensures .0, c .before .before .group-end .ensures .1, c .before .before .group-end .ensures .2, c .before .before .before .loop-test .taken, c .before .before .before .before .loop .inv .ahead .sized, c .before .before .before .before .loop .inv .sized, c .before .before .before .before .before .before .before .before .pre .1 .2, c .before .before .before .before .before .before .before .before .good .1 .1 .1 .0 .1, c .before .before .before .before .before .before .before .before .good .1 .1 .1 .1 .0 .1)
 
-add-i : tie.Need-add-i Inv-loop μ-loop
-add-i c = search needs
+part-group-end-2 : tie.Need-part-group-end-2 Inv-loop μ-loop
+part-group-end-2 c = omega (arith, c .before .before .group-end .ensures .0, c .before .before .group-end .ensures .1, c .before .before .group-end .ensures .2, c .before .before .before .loop-test .taken, c .before .before .before .before .loop .inv .ahead .sized, c .before .before .before .before .loop .inv .sized, c .before .before .before .before .before .before .before .before .pre .1 .2, c .before .before .before .before .before .before .before .before .good .1 .1 .1 .0 .1, c .before .before .before .before .before .before .before .before .good .1 .1 .1 .1 .0 .1)
+
+add-group : tie.Need-add-group Inv-loop μ-loop
+add-group c = omega (arith, c .before .before .before .group-end .ensures .0, c .before .before .before .group-end .ensures .1, c .before .before .before .group-end .ensures .2, c .before .before .before .before .loop-test .taken, c .before .before .before .before .before .loop .inv .ahead .sized, c .before .before .before .before .before .loop .inv .sized, c .before .before .before .before .before .before .before .before .before .pre .1 .2, c .before .before .before .before .before .before .before .before .before .good .1 .1 .1 .0 .1, c .before .before .before .before .before .before .before .before .before .good .1 .1 .1 .1 .0 .1)
+
+group-requires : tie.Need-group-requires Inv-loop μ-loop
+group-requires c κs = let s = c .before .before .before .before .before .before .before .before .before in let p = c .before .before .before .before .before .loop .inv in let e = c .before .before .before .group-end .ensures in let l = c .before .group-arg2 .given .2 in let r = c .group-arg3 .given .2 in
+    (s .pre .0, (omega (arith, l, e .2), (omega (arith, p .kept, s .pre .1 .0), omega (arith, l, r), omega (arith, l, e .0, e .1, p .ahead .sized, s .pre .1 .2))))
 
 loop-less : tie.Need-loop-less Inv-loop μ-loop
-loop-less c = search needs
+loop-less c = omega (arith, c .before .before .before .before .before .before .before .before .before .before .group-end .ensures .0, c .before .before .before .before .before .before .before .before .before .before .group-end .ensures .1, c .before .before .before .before .before .before .before .before .before .before .group-end .ensures .2, c .before .before .before .before .before .before .before .before .before .before .before .loop-test .taken, c .before .before .before .before .before .before .before .before .before .before .before .before .loop .inv .ahead .sized, c .before .before .before .before .before .before .before .before .before .before .before .before .loop .inv .sized, c .before .before .before .before .before .before .before .before .before .before .before .before .before .before .before .before .pre .1 .2, c .before .before .before .before .before .before .before .before .before .before .before .before .before .before .before .before .good .1 .1 .1 .0 .1, c .before .before .before .before .before .before .before .before .before .before .before .before .before .before .before .before .good .1 .1 .1 .1 .0 .1)
 
 loop-again : tie.Need-loop-again Inv-loop μ-loop
-loop-again c = let l = c .before .before .before .before .before .before .before .loop in let s = c .before .before .before .before .before .before .before .before .before .before .before in let w = c .before .before .before .step in
-    plate-turn (s .args .rate) (s .args .n) _ _ (plateOn (l .plate) (l .part)) (l .left) (l .right) (l .i) (gave (plateOn (w .result .plate) (w .last .1 .1 .0)) (w .result .frame)) (l .inv) (c .before .before .before .before .before .before .loop-test .taken) (w .kept .1 .1 .0) (w .ensures)
+loop-again c = let l = c .before .before .before .before .before .before .before .before .before .before .before .before .loop in let s = c .before .before .before .before .before .before .before .before .before .before .before .before .before .before .before .before in let w = c .before .before .before .before .before .before .group in let e = c .before .before .before .before .before .before .before .before .before .before .group-end in
+    plate-group (s .args .rate) (s .args .n) _ _ (plateOn (l .plate) (l .part)) (l .left) (l .right) (l .i) (e .result) (plateOn (w .result) (w .last .1 .1 .0)) (w .last .1 .1 .1 .0) (w .last .1 .1 .1 .1 .0) (l .inv) (omega (arith, e .ensures .0)) (e .ensures .1) (w .kept .1 .1 .0) (w .ensures .0) (w .ensures .1 .0) (w .ensures .1 .1)
 
 same-length : tie.Need-same-length Inv-loop μ-loop
 same-length c = search needs
@@ -69,15 +76,17 @@ block-spec =
     Inv-loop
     μ-loop
     loop-holds
-    mul-step
-    slice-read-step
-    add-step
-    step-requires
-    mul-left
-    slice-write-left
-    mul-right
-    slice-write-right
-    add-i
+    group-end-requires
+    mul-group
+    sub-group
+    part-group-start
+    part-group-end
+    mul-group-2
+    sub-group-2
+    part-group-start-2
+    part-group-end-2
+    add-group
+    group-requires
     loop-less
     loop-again
     same-length

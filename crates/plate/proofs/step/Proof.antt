@@ -31,7 +31,7 @@ part-tank-step-end : tie.Need-part-tank-step-end
 part-tank-step-end c = search needs
 
 tank-step-requires : tie.Need-tank-step-requires
-tank-step-requires c κs = search needs
+tank-step-requires c κs = let s = c .before .before .before .before .before .before in (s .pre .0, (s .pre .1 .0, search needs))
 
 step-requires : tie.Need-step-requires
 step-requires c κs = search needs
@@ -43,7 +43,7 @@ same-length : tie.Need-same-length
 same-length c = search needs
 
 returns : tie.Need-returns
-returns c = let s = c .before .before .before .before .before .before .before .before .before .before .before .before in step-is (s .args .rate) (s .args .n) (s .args .plate) (s .args .part .now) (s .args .x) (omega (arith, s .pre .1 .0)) (gave (c .before .before .before .before .before .before .before .before .before .input .last .1 .0) (c .before .before .before .before .before .before .before .before .before .input .result)) (gave (tankIn (c .before .before .before .before .before .tank-step .result .tank) (c .before .before .before .before .before .tank-step .last .1 .1 .0)) (c .before .before .before .before .before .tank-step .result .frame)) (c .before .before .step .result) (c .before .step2 .result) (omega (arith, c .before .before .before .before .before .before .before .before .before .input .kept .1 .0, c .before .before .before .before .before .before .before .before .before .before .input-arg .given .2)) (c .before .before .before .before .before .before .before .before .before .input .ensures) (c .before .before .before .before .before .tank-step .ensures) (c .before .before .step .ensures) (c .before .step2 .ensures)
+returns c = let s = c .before .before .before .before .before .before .before .before .before .before .before .before in step-is (s .args .rate) (s .args .n) (s .args .plate) (s .args .part .now) (s .args .x) (omega (arith, s .pre .1 .1 .0)) (gave (c .before .before .before .before .before .before .before .before .before .input .last .1 .0) (c .before .before .before .before .before .before .before .before .before .input .result)) (gave (tankIn (c .before .before .before .before .before .tank-step .result .tank) (c .before .before .before .before .before .tank-step .last .1 .1 .0)) (c .before .before .before .before .before .tank-step .result .frame)) (c .before .before .step .result) (c .before .step2 .result) (omega (arith, c .before .before .before .before .before .before .before .before .before .input .kept .1 .0, c .before .before .before .before .before .before .before .before .before .before .input-arg .given .2)) (c .before .before .before .before .before .before .before .before .before .input .ensures) (c .before .before .before .before .before .tank-step .ensures) (c .before .before .step .ensures) (c .before .step2 .ensures)
 
 pub step-spec : {M : Type 1} → statement M
 step-spec =
