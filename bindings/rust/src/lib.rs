@@ -211,8 +211,8 @@ pub struct Strip<'a> {
 }
 
 impl<'a> Strip<'a> {
-    /// Opens a strip at position 0 in stores of at least [`STORE_NUMBERS`] and [`STORE_COUNTS`] elements, which may hold anything. What
-    /// lies beyond those lengths is never touched.
+    /// Opens a strip at position 0 in stores of at least [`STORE_NUMBERS`] and [`STORE_COUNTS`] elements, which may hold
+    /// anything. What lies beyond those lengths is never touched.
     pub fn open(setup: &Setup<'_>, store: &'a mut [f64], counts: &'a mut [u64]) -> Result<Self, Refusal> {
         let (singles, doubles, flags) = packed(setup);
         let mut strip = Self { numbers: [0.0; NUMBERS], words: [0; WORDS], store, counts };
