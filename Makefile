@@ -1,8 +1,8 @@
 # test: the layout, the part beside the Rust, what a maker links, then the verdict, whose last line is 'N passed, 0 failed'.
 # lib: build/libgoqhari.a, for C and C++ by include/goqhari.h and for Rust by bindings/rust, proved before it is built.
 # demo: a phrase through it, to hear and to see. sheet: the data sheet's pictures and figures, measured anew.
-# replay: the replays' tallies, of the part's answers beside kept lists of the oracle's.
-.PHONY: test lib demo sheet replay
+# replay: the replays' tallies, of the part's answers beside kept lists of the oracle's. bench: the part's time over the Rust's.
+.PHONY: test lib demo sheet replay bench
 
 test:
 	rt fmt --check
@@ -28,3 +28,6 @@ replay:
 	rt check replay replay_stages
 	target/bin/replay < crates/replay/stdin
 	target/bin/replay_stages < crates/replay_stages/stdin
+
+bench:
+	harness/bench
