@@ -1,0 +1,3 @@
+mod Downs
+mod Groups
+pub mod Row
