@@ -19,7 +19,7 @@ pub struct Eight {
     pub h: f64,
 }
 
-fn all_of(v: f64) -> Eight
+pub fn all_of(v: f64) -> Eight
     ensures { λ r. ⌜ r ≡ all v ⌝ }
 {
     Eight {

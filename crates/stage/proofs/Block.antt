@@ -6,10 +6,10 @@ use native.Mathlib.Nat.{mul-suc, mul-zero}
 use mathlib.Core.List.{List, [], _∷_, _++_, map, append-assoc, append-nil}
 use lib.ListN.{length, take, drop, length-append, length-drop, take-append-drop}
 use lib.Seq.{take-at, drop-at, take-all, take-add, drop-drop, length-take-le, take-nil, drop-nil}
-use borrow.Rule.Slice.PartMut.{midOf, putMid, same-len-mid}
+use borrow.Rule.Slice.PartMut.{midOf, putMid, same-len-mid, mid-len, post-is, drop-put}
 use Rattle.stage.specs.Stage.{Step, Stage, ran, outs, flatMap}
 use Rattle.stage.proofs.Laws.{outs-length, ran-split, outs-split}
-use Rattle.stage.proofs.Loop.{Wrote, Gone}
+use Rattle.stage.proofs.Loop.{Wrote, Gone, InPlace}
 
 -- a list from i on: the block, and what comes after it
 pub block-rest : {X : Type 0} (xs : List X) (i e : ℕ) → i ≤ e → drop i xs ≡ take (e - i) (drop i xs) ++ drop e xs
@@ -79,6 +79,27 @@ wrote-block {Z} want zs ys a e w h k q =
           ∙ sym (take-add a (e - a) want)
           ∙ ap (λ (j : ℕ). take j want) c;
     }
+
+-- a block of a stage whose output takes the place of its input
+module _ {S X : Type 0} (f : Stage S X X) (n : ℕ) (s₀ : S) (xs : List X) where
+  pub in-block : (s : S) (b : List X) (i e : ℕ) (t : S) (ys : List X) → InPlace f n s₀ xs s b i → i ≤ e → e ≤ length b
+      → t ≡ ran f (n + i) s (midOf i (e - i) b) → ys ≡ outs f (n + i) s (midOf i (e - i) b) → InPlace f n s₀ xs t (putMid i (e - i) b ys) e
+  in-block s b i e t ys p h k q w =
+      let z : length b ≡ length xs = p .ahead .sized in
+      let m : midOf i (e - i) b ≡ take (e - i) (drop i xs) = ap (take (e - i)) (p .ahead .same) in
+      let within : e ≤ length xs = omega (arith, z, k) in
+      let l : length ys ≡ length (midOf i (e - i) b) = ap length w ∙ outs-length f (n + i) s (midOf i (e - i) b) in
+      record {
+        gone = gone-block f n s₀ xs s i e (p .gone) h within t (q ∙ ap (ran f (n + i) s) m);
+        wrote =
+            wrote-block (outs f n s₀ xs) b ys i e (p .wrote) h (rw (outs-length f n s₀ xs) within)
+            (w ∙ ap (outs f (n + i) s) m ∙ gone-outs f n s₀ xs s i e (p .gone) h within);
+        ahead =
+            record {
+              sized = same-len-mid i (e - i) b ys l ∙ z;
+              same = drop-put i e b ys h k (l ∙ mid-len i e b k) ∙ sym (post-is i e b h) ∙ ap (drop (e - i)) (p .ahead .same) ∙ post-is i e xs h;
+            };
+      }
 
 -- outputs that are laid out as k elements each
 module _ {Y Z : Type 0} (e : Y → List Z) (k : ℕ) (each : (y : Y) → length (e y) ≡ k) where

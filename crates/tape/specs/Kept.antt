@@ -1,11 +1,13 @@
 -- The lane as it is kept: the warp as a ring in its part of the sample store, the duck with its cursors in its part of the count store. Definitions only.
 use Prim.Native.Nat.{ℕ, _+_, _<_, _≤_}
+use mathlib.Core.Path.{_≡_}
 use mathlib.Core.Bool.{Bool, true, false, _&&_}
 use mathlib.Core.List.{List}
 use lib.ListN.{length}
-use lib.Ieee.{Float}
-use Rattle.casts.specs.Arithmetic.{_⊗_, _⊘_}
-use Rattle.elementary.specs.Elementary.{TANH}
+use lib.Ieee.{Float, binary32, add, mul}
+use Rattle.casts.specs.Arithmetic.{_⊖_, _⊗_, one}
+use Rattle.casts.specs.Cast.{narrowed}
+use Rattle.eight.specs.Each.{eightOf, listed}
 use Rattle.stage.specs.Stage.{Step, Stage, identity}
 use Rattle.biquad.specs.declared.Lowpass.{Lowpass}
 use Rattle.biquad.specs.Section.{lowpassStep, lowpassAtRest}
@@ -21,6 +23,20 @@ use Rattle.tape.specs.declared.Tape.{Tape}
 use Rattle.tape.specs.declared.TapeSetup.{TapeSetup}
 use Rattle.tape.specs.declared.Equalizer.{Equalizer}
 use Rattle.tape.specs.Tape.{swellOf, warpDelay, saturated, equalizerStep, equalizerAtRest, Lists}
+
+-- ---- the oscillators
+
+-- the swell whose sine is s, in f32
+abbrev pub swelled : Float → Float → Float
+swelled depth s = add binary32 one (mul binary32 depth (narrowed s))
+
+-- the warp's delay at the sines of wow and flutter
+abbrev pub readAt : TapeRate → Float → Float → Float
+readAt r wow flutter = r .reach ⊖ r .wow .a ⊗ wow ⊖ r .flutter .a ⊗ flutter
+
+-- eight values in a row, unless few are asked for
+abbrev pub Laid : Bool → (ℕ → Float) → List Float → Type 0
+Laid few f l = few ≡ false → l ≡ listed (eightOf f)
 
 -- ---- the passes
 
@@ -46,10 +62,6 @@ pub record WarpFits (r : TapeRate) (ring : List Float) : Type 0 where
   pub some : 0 < r .warp .ring
   pub room : r .warp .at + r .warp .ring ≤ length ring
   pub reach : Reach (r .most)
-
--- TANH(drive) in hand
-abbrev pub saturatedOver : Float → Float → Float → Float
-saturatedOver drive top x = TANH (x ⊗ drive) ⊘ top
 
 abbrev pub equalizerGave : Equalizer → Float → Step Equalizer Float
 equalizerGave e y = record { next = e; out = y }

@@ -1,21 +1,24 @@
 // The tape lane as a stage (lanes.rs `Tape`): tone, swell and gain, warp, saturation, head bump, rolloff, tilt, gain and duck.
 // It works on its own parts of the stores: the warp's ring in the sample store, the duck's part in the count store.
-// Uses casts, elementary, stage, stream, onepole, biquad, delay, ramp, rate, automation and duck.
+// Uses casts, elementary, eight, stage, stream, onepole, biquad, delay, ramp, rate, automation and duck.
 ghost use mathlib.Core.Path.{_≡_};
 ghost use mathlib.Core.List.{map};
 ghost use Prim.Native.Nat.{_+_, _<_, _≤_};
 ghost use lib.ListN.{length};
+ghost use Rattle.casts.specs.Arithmetic.{_⊗_, whole};
+ghost use Rattle.eight.specs.Each.{each, each2, eightOf, saturatedOver};
 ghost use Rattle.stage.specs.Stage.{ran, outs};
 ghost use Rattle.onepole.specs.OnePole.{tiltStep};
 ghost use Rattle.duck.specs.Cursors.{duckOn, Within};
-ghost use Rattle.tape.specs.Tape.{swellOf, warpDelay, saturated, liftAt, equalizerStep, equalizerAtRest, freshTape};
-ghost use Rattle.tape.specs.Kept.{frontStepOn, frontOn, frontGave, saturatedOver, equalizerGave, duckedStepOn, tapeOn, tapeTuned, WarpFits, tapeAtRestOn};
+ghost use Rattle.tape.specs.Tape.{phaseOf, swellOf, warpDelay, saturated, liftAt, equalizerStep, equalizerAtRest, freshTape};
+ghost use Rattle.tape.specs.Kept.{frontStepOn, frontOn, frontGave, swelled, readAt, Laid, equalizerGave, duckedStepOn, tapeOn, tapeTuned, WarpFits, tapeAtRestOn};
 use automation::Tone;
 use biquad::Coefficients;
 use biquad::Lowpass;
 use biquad::Section;
 use duck::Duck;
 use duck::DuckRate;
+use eight::Eight;
 use onepole::OnePole;
 use onepole::Tilted;
 use ramp::Ramp;
@@ -67,12 +70,19 @@ const HEAD_BUMP_MIX: f32 = 0.35;
 
 const TILT_LIFT: f32 = 0.8;
 
-// The phase in radians, within one cycle, of a sine at hz, n samples in.
-fn phase(rate: u32, hz: f32, n: u64) -> f32
-    ensures { λ r. ⌜ r ≡ Rattle.tape.specs.Tape.phaseOf rate hz n ⌝ }
+// The phase in radians, within one cycle, of a sine at hz, n samples in; an f32's value.
+fn phase(rate: u32, hz: f32, n: u64) -> f64
+    ensures { λ r. ⌜ r ≡ phaseOf rate hz n ⌝ }
 {
     let cycles = casts::widen(hz) * std::num::nearest_u64_to_f64(n) / (rate as f64);
-    casts::narrow(TAU * (cycles - casts::floor(cycles)))
+    casts::widen(casts::narrow(TAU * (cycles - casts::floor(cycles))))
+}
+
+// The swell whose sine is s.
+fn swell_by(depth: f32, s: f64) -> f64
+    ensures { λ r. ⌜ r ≡ swelled depth s ⌝ }
+{
+    casts::widen(1.0f32 + depth * casts::narrow(s))
 }
 
 // The pad's swell at sample n; 1 without a pad.
@@ -81,20 +91,154 @@ fn swell(rate: u32, pad: Pad, n: u64) -> f64
 {
     match pad {
         Pad::Without => 1.0,
-        Pad::Swell { hz, depth } => {
-            casts::widen(1.0f32 + depth * elementary::sin_f32(phase(rate, hz, n)))
-        }
+        Pad::Swell { hz, depth } => swell_by(depth, elementary::sin(phase(rate, hz, n))),
     }
 }
 
-// How far behind its newest sample the warp is read at sample n.
+// How far behind its newest sample the warp is read, the sines of wow and flutter being in hand.
+fn delay_by(rate: TapeRate, wow: f64, flutter: f64) -> f64
+    ensures { λ r. ⌜ r ≡ readAt rate wow flutter ⌝ }
+{
+    rate.reach - rate.wow.a * wow - rate.flutter.a * flutter
+}
+
+// The same at sample n.
 fn warp_delay(rate: TapeRate, n: u64) -> f64
     ensures { λ r. ⌜ r ≡ warpDelay rate n ⌝ }
 {
     let count = std::num::nearest_u64_to_f64(n);
-    rate.reach
-        - rate.wow.a * elementary::sin(rate.wow.w * count)
-        - rate.flutter.a * elementary::sin(rate.flutter.w * count)
+    delay_by(
+        rate,
+        elementary::sin(rate.wow.w * count),
+        elementary::sin(rate.flutter.w * count),
+    )
+}
+
+// ---- the oscillators of a group, the eight samples from n on: the plain ones where it has few samples
+
+fn phases(rate: u32, hz: f32, n: u64) -> Eight
+    requires { ⌜ n < 4294967296 ⌝ }
+    ensures { λ r. ⌜ r ≡ eightOf (λ k. phaseOf rate hz (n + k)) ⌝ }
+{
+    Eight {
+        a: phase(rate, hz, n),
+        b: phase(rate, hz, n + 1),
+        c: phase(rate, hz, n + 2),
+        d: phase(rate, hz, n + 3),
+        e: phase(rate, hz, n + 4),
+        f: phase(rate, hz, n + 5),
+        g: phase(rate, hz, n + 6),
+        h: phase(rate, hz, n + 7),
+    }
+}
+
+fn swells_by(depth: f32, s: Eight) -> Eight
+    ensures { λ r. ⌜ r ≡ each (swelled depth) s ⌝ }
+{
+    Eight {
+        a: swell_by(depth, s.a),
+        b: swell_by(depth, s.b),
+        c: swell_by(depth, s.c),
+        d: swell_by(depth, s.d),
+        e: swell_by(depth, s.e),
+        f: swell_by(depth, s.f),
+        g: swell_by(depth, s.g),
+        h: swell_by(depth, s.h),
+    }
+}
+
+fn swell_eight(rate: u32, pad: Pad, n: u64) -> Eight
+    requires { ⌜ n < 4294967296 ⌝ }
+    ensures { λ r. ⌜ r ≡ eightOf (λ k. swellOf rate pad (n + k)) ⌝ }
+{
+    match pad {
+        Pad::Without => eight::all_of(1.0),
+        Pad::Swell { hz, depth } => swells_by(depth, eight::sin_eight(phases(rate, hz, n))),
+    }
+}
+
+fn swells(rate: u32, pad: Pad, n: u64, few: bool) -> [f64; 8]
+    requires { ⌜ n < 4294967296 ⌝ }
+    ensures { λ r. ⌜ Laid few (λ k. swellOf rate pad (n + k)) r ⌝ }
+{
+    if few {
+        let none = [0.0; 8];
+        return none;
+    }
+    eight::listed(swell_eight(rate, pad, n))
+}
+
+fn swell_at(rate: u32, pad: Pad, swells: &[f64; 8], n: u64, few: bool, k: usize) -> f64
+    requires { ⌜ (n < 4294967296) × (k < 8) ⌝ }
+    requires { ⌜ Laid few (λ j. swellOf rate pad (n + j)) (now swells) ⌝ }
+    ensures { λ r. ⌜ r ≡ swellOf rate pad (n + k) ⌝ }
+{
+    if few {
+        return swell(rate, pad, n + k as u64);
+    }
+    swells[k]
+}
+
+fn turns(w: f64, n: u64) -> Eight
+    requires { ⌜ n < 4294967296 ⌝ }
+    ensures { λ r. ⌜ r ≡ eightOf (λ k. w ⊗ whole (n + k)) ⌝ }
+{
+    Eight {
+        a: w * std::num::nearest_u64_to_f64(n),
+        b: w * std::num::nearest_u64_to_f64(n + 1),
+        c: w * std::num::nearest_u64_to_f64(n + 2),
+        d: w * std::num::nearest_u64_to_f64(n + 3),
+        e: w * std::num::nearest_u64_to_f64(n + 4),
+        f: w * std::num::nearest_u64_to_f64(n + 5),
+        g: w * std::num::nearest_u64_to_f64(n + 6),
+        h: w * std::num::nearest_u64_to_f64(n + 7),
+    }
+}
+
+fn delays_by(rate: TapeRate, wow: Eight, flutter: Eight) -> Eight
+    ensures { λ r. ⌜ r ≡ each2 (readAt rate) wow flutter ⌝ }
+{
+    Eight {
+        a: delay_by(rate, wow.a, flutter.a),
+        b: delay_by(rate, wow.b, flutter.b),
+        c: delay_by(rate, wow.c, flutter.c),
+        d: delay_by(rate, wow.d, flutter.d),
+        e: delay_by(rate, wow.e, flutter.e),
+        f: delay_by(rate, wow.f, flutter.f),
+        g: delay_by(rate, wow.g, flutter.g),
+        h: delay_by(rate, wow.h, flutter.h),
+    }
+}
+
+fn delay_eight(rate: TapeRate, n: u64) -> Eight
+    requires { ⌜ n < 4294967296 ⌝ }
+    ensures { λ r. ⌜ r ≡ eightOf (λ k. warpDelay rate (n + k)) ⌝ }
+{
+    let wow = eight::sin_eight(turns(rate.wow.w, n));
+    let flutter = eight::sin_eight(turns(rate.flutter.w, n));
+    delays_by(rate, wow, flutter)
+}
+
+fn delays(rate: TapeRate, n: u64, few: bool) -> [f64; 8]
+    requires { ⌜ n < 4294967296 ⌝ }
+    ensures { λ r. ⌜ Laid few (λ k. warpDelay rate (n + k)) r ⌝ }
+{
+    if few {
+        let none = [0.0; 8];
+        return none;
+    }
+    eight::listed(delay_eight(rate, n))
+}
+
+fn delay_at(rate: TapeRate, delays: &[f64; 8], n: u64, few: bool, k: usize) -> f64
+    requires { ⌜ (n < 4294967296) × (k < 8) ⌝ }
+    requires { ⌜ Laid few (λ j. warpDelay rate (n + j)) (now delays) ⌝ }
+    ensures { λ r. ⌜ r ≡ warpDelay rate (n + k) ⌝ }
+{
+    if few {
+        return warp_delay(rate, n + k as u64);
+    }
+    delays[k]
 }
 
 // The saturation, TANH(drive) being in hand.
@@ -116,25 +260,26 @@ fn lift(darkened: bool, rain: Ramp, n: u64) -> f64
 
 // ---- one sample of each pass
 
-// Tone, swell and gain in, warp: the ring is the warp's own.
+// Tone, swell and gain in, warp: the ring is the warp's own, the swell and the delay are the sample's.
 fn front_step(
     rate: TapeRate,
     setup: TapeSetup,
     tone: Lowpass,
     ring: &mut [f64],
     n: u64,
+    swell: f64,
+    delay: f64,
     x: f64,
 ) -> Fronted
     requires { ⌜ WarpFits rate (now ring) ⌝ }
     requires { ⌜ n < 4294967296 ⌝ }
+    requires { ⌜ (swell ≡ swellOf (rate .hz) (setup .pad) n) × (delay ≡ warpDelay rate n) ⌝ }
     ensures { λ r. ⌜ frontGave (r .tone) (now (ring .exit)) (r .y) ≡ frontStepOn rate setup n (frontOn tone (now (ring .entry))) x ⌝ }
 {
-    let pad = setup.pad;
     let toned = tone.step(x);
-    let level = swell(rate.hz, pad, n) * setup.input;
     let warp = rate.warp;
-    warp.push(ring, n, toned.second.y1 * level);
-    let y = warp.tap(ring, n + 1, rate.most, warp_delay(rate, n));
+    warp.push(ring, n, toned.second.y1 * (swell * setup.input));
+    let y = warp.tap(ring, n + 1, rate.most, delay);
     Fronted { tone: toned, y }
 }
 
@@ -172,6 +317,56 @@ fn equalizer_step(setup: TapeSetup, rain: Ramp, equalizer: Equalizer, n: u64, x:
 
 // ---- the passes over a block
 
+// Of fewer samples the oscillators cost less one by one.
+const FEW: usize = 4;
+
+fn front_group(
+    rate: TapeRate,
+    setup: TapeSetup,
+    tone: Lowpass,
+    ring: &mut [f64],
+    group: &mut [f64],
+    n: u64,
+) -> Lowpass
+    requires { ⌜ WarpFits rate (now ring) ⌝ }
+    requires { ⌜ (n + length (now group) ≤ 4294967296) × (n < 4294967296) × (length (now group) ≤ 8) ⌝ }
+    ensures { λ r. ⌜ frontOn r (now (ring .exit)) ≡ ran (frontStepOn rate setup) n (frontOn tone (now (ring .entry))) (now (group .entry)) ⌝ }
+    ensures { λ r. ⌜ now (group .exit) ≡ outs (frontStepOn rate setup) n (frontOn tone (now (ring .entry))) (now (group .entry)) ⌝ }
+{
+    let pad = setup.pad;
+    let few = group.len() < FEW;
+    let swells = swells(rate.hz, pad, n, few);
+    let delays = delays(rate, n, few);
+    let mut tone = tone;
+    let mut i: usize = 0;
+    while i < group.len() {
+        let swell = swell_at(rate.hz, pad, &swells, n, few, i);
+        let delay = delay_at(rate, &delays, n, few, i);
+        let f = front_step(
+            rate,
+            setup,
+            tone,
+            ring,
+            n + i as u64,
+            swell,
+            delay,
+            group[i],
+        );
+        tone = f.tone;
+        group[i] = f.y;
+        i += 1;
+    }
+    tone
+}
+
+// Where the group that begins at i ends.
+fn group_end(i: usize, len: usize) -> usize
+    requires { ⌜ i < len ⌝ }
+    ensures { λ r. ⌜ (i < r) × (r ≤ len) × (r ≤ i + 8) ⌝ }
+{
+    if len - i < 8 { len } else { i + 8 }
+}
+
 fn front_block(
     rate: TapeRate,
     setup: TapeSetup,
@@ -188,22 +383,32 @@ fn front_block(
     let mut tone = tone;
     let mut i: usize = 0;
     while i < block.len() {
-        let f = front_step(rate, setup, tone, ring, n + i as u64, block[i]);
-        tone = f.tone;
-        block[i] = f.y;
-        i += 1;
+        let e = group_end(i, block.len());
+        tone = front_group(rate, setup, tone, ring, &mut block[i..e], n + i as u64);
+        i = e;
     }
     tone
+}
+
+// One by one, TANH(drive) being in hand.
+fn saturate_each(drive: f64, top: f64, block: &mut [f64])
+    ensures { λ _. ⌜ now (block .exit) ≡ map (saturatedOver drive top) (now (block .entry)) ⌝ }
+{
+    let mut i: usize = 0;
+    while i < block.len() {
+        block[i] = saturate_over(drive, top, block[i]);
+        i += 1;
+    }
 }
 
 fn saturate_block(drive: f64, block: &mut [f64])
     ensures { λ _. ⌜ now (block .exit) ≡ map (saturated drive) (now (block .entry)) ⌝ }
 {
     let top = elementary::tanh(drive);
-    let mut i: usize = 0;
-    while i < block.len() {
-        block[i] = saturate_over(drive, top, block[i]);
-        i += 1;
+    if block.len() < FEW {
+        saturate_each(drive, top, block);
+    } else {
+        eight::saturate_over(block, drive, top);
     }
 }
 

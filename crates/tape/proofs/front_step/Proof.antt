@@ -7,51 +7,33 @@ use Rattle.tape.proofs.front_step.Lts as lts
 use Rattle.biquad.proofs.Lowpass.step.Reads as step-reads
 use Rattle.delay.proofs.DelayLine.push.Reads as push-reads
 use Rattle.delay.proofs.DelayLine.tap.Reads as tap-reads
-use Rattle.tape.proofs.swell.Reads as swell-reads
-use Rattle.tape.proofs.warp_delay.Reads as warp-delay-reads
 
--- src/lib.rt:124:9
+-- src/lib.rt:277:9
 step-requires : tie.Need-step-requires
 step-requires c κs = search needs
 
--- src/lib.rt:125:17
-swell-requires : tie.Need-swell-requires
-swell-requires c κs = search needs
-
--- src/lib.rt:127:5
+-- src/lib.rt:279:5
 push-requires : tie.Need-push-requires
 push-requires c κs = search needs
 
--- src/lib.rt:128:28
+-- src/lib.rt:280:28
 add-tap : tie.Need-add-tap
 add-tap c = search needs
 
--- src/lib.rt:128:46
-warp-delay-requires : tie.Need-warp-delay-requires
-warp-delay-requires c κs = search needs
-
--- src/lib.rt:128:9
+-- src/lib.rt:280:9
 tap-requires : tie.Need-tap-requires
 tap-requires c κs = search needs
 
--- src/lib.rt:118:1
+-- src/lib.rt:262:1
 same-length : tie.Need-same-length
 same-length c = search needs
 
--- src/lib.rt:118:1
+-- src/lib.rt:262:1
 returns : tie.Need-returns
 unfolding frontStepOn
-returns c = rw (c .tap .ensures, c .before .warp-delay .ensures, c .before .before .before .before .before .push .ensures, c .before .before .before .before .before .before .before .before .before .before .swell .ensures, c .before .before .before .before .before .before .before .before .before .before .before .step .ensures)
+returns c = let s = c .before .before .before .before .before .before .before .before .before .before .before in
+    rw (c .tap .ensures, c .before .before .before .before .push .ensures, c .before .before .before .before .before .before .before .before .before .step .ensures, s .pre .1 .1 .0, s .pre .1 .1 .1)
 
 pub front-step-spec : {M : Type 1} → statement M
 front-step-spec =
-    tie.close
-    (tie.spec
-    step-requires
-    swell-requires
-    push-requires
-    add-tap
-    warp-delay-requires
-    tap-requires
-    same-length
-    returns)
+    tie.close (tie.spec step-requires push-requires add-tap tap-requires same-length returns)

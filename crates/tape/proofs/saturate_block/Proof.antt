@@ -1,89 +1,51 @@
-use mathlib.Core.Path.{_≡_}
-use lib.Ieee.{nan}
-use Prim.Native.Nat.{_-_}
-use lib.ListN.{length}
-use Rattle.elementary.specs.Elementary.{TANH}
-use Rattle.tape.specs.Tape.{saturated}
-use Rattle.stage.proofs.Loop.{MapIn, map-start, map-turn, map-done}
 use borrow.Author.Needs.{needs}
+use Rattle.tape.specs.Tape.{saturated}
 use Rattle.tape.proofs.saturate_block.Statement.{statement}
 use Rattle.tape.proofs.saturate_block.Tie as tie
 use Rattle.tape.proofs.saturate_block.Reads as reads
 use Rattle.tape.proofs.saturate_block.Lts as lts
+use Rattle.eight.proofs.saturate_over.Reads as saturate-over-reads
 use Rattle.elementary.proofs.tanh.Reads as tanh-reads
-use Rattle.tape.proofs.saturate_over.Reads as saturate-over-reads
+use Rattle.tape.proofs.saturate_each.Reads as saturate-each-reads
 
-abbrev Inv-loop : tie.InvT-loop
-Inv-loop drive block₀ top i₀ block i = MapIn (saturated drive) block₀ block i × (top ≡ TANH drive)
-
-abbrev μ-loop : tie.MeasureT-loop
-μ-loop drive block₀ top i₀ block i = length block₀ - i
-
--- src/lib.rt:170:9
-tanh-requires : tie.Need-tanh-requires Inv-loop μ-loop
+-- src/lib.rt:395:9
+tanh-requires : tie.Need-tanh-requires
 tanh-requires c κs = search needs
 
--- src/lib.rt:172:5
-loop-holds : tie.Need-loop-holds Inv-loop μ-loop
-loop-holds c = (map-start _ _, c .tanh .ensures)
+-- src/lib.rt:397:9
+saturate-each-requires : tie.Need-saturate-each-requires
+saturate-each-requires c κs = search needs
 
--- src/lib.rt:173:46
-mul-saturate-over : tie.Need-mul-saturate-over Inv-loop μ-loop
-mul-saturate-over c = search needs
-
--- src/lib.rt:173:46
-slice-read-saturate-over : tie.Need-slice-read-saturate-over Inv-loop μ-loop
-slice-read-saturate-over c = search needs
-
--- src/lib.rt:173:20
-saturate-over-requires : tie.Need-saturate-over-requires Inv-loop μ-loop
+-- src/lib.rt:399:9
+saturate-over-requires : tie.Need-saturate-over-requires
 saturate-over-requires c κs = search needs
 
--- src/lib.rt:173:9
-mul-block : tie.Need-mul-block Inv-loop μ-loop
-mul-block c = search needs
-
--- src/lib.rt:173:9
-slice-write-block : tie.Need-slice-write-block Inv-loop μ-loop
-slice-write-block c = search needs
-
--- src/lib.rt:174:9
-add-i : tie.Need-add-i Inv-loop μ-loop
-add-i c = search needs
-
--- src/lib.rt:172:5
-loop-less : tie.Need-loop-less Inv-loop μ-loop
-loop-less c = search needs
-
--- src/lib.rt:172:5
-loop-again : tie.Need-loop-again Inv-loop μ-loop
-unfolding saturated
-loop-again c = let l = c .before .before .before .loop in
-    (map-turn _ _ (l .block) (l .i) nan _ (l .inv .0) (c .before .before .loop-test .taken) (rw (c .saturate-over .ensures, l .inv .1)), l .inv .1)
-
--- src/lib.rt:167:1
-same-length : tie.Need-same-length Inv-loop μ-loop
+-- src/lib.rt:392:1
+same-length : tie.Need-same-length
 same-length c = search needs
 
--- src/lib.rt:167:1
-returns : tie.Need-returns Inv-loop μ-loop
-returns c = let l = c .before .loop in map-done _ _ (l .block) (l .i) (l .inv .0) (c .loop-test .left)
+-- src/lib.rt:392:1
+returns : tie.Need-returns
+unfolding saturated
+returns c = rw (c .before .before .saturate-each .ensures, c .before .before .before .before .before .tanh .ensures)
+
+-- src/lib.rt:392:1
+same-length-2 : tie.Need-same-length-2
+same-length-2 c = search needs
+
+-- src/lib.rt:392:1
+returns-2 : tie.Need-returns-2
+unfolding saturated
+returns-2 c = rw (c .before .before .saturate-over .ensures, c .before .before .before .before .before .tanh .ensures)
 
 pub saturate-block-spec : {M : Type 1} → statement M
 saturate-block-spec =
     tie.close
     (tie.spec
-    Inv-loop
-    μ-loop
     tanh-requires
-    loop-holds
-    mul-saturate-over
-    slice-read-saturate-over
+    saturate-each-requires
     saturate-over-requires
-    mul-block
-    slice-write-block
-    add-i
-    loop-less
-    loop-again
     same-length
-    returns)
+    returns
+    same-length-2
+    returns-2)

@@ -1,0 +1,92 @@
+use native.Mathlib.Nat.{add-zero}
+use borrow.Author.Needs.{needs}
+use Rattle.tape.proofs.phases.Statement.{statement}
+use Rattle.tape.proofs.phases.Tie as tie
+use Rattle.tape.proofs.phases.Reads as reads
+use Rattle.tape.proofs.phases.Lts as lts
+use Rattle.tape.proofs.phase.Reads as phase-reads
+
+-- src/lib.rt:122:12
+phase-requires : tie.Need-phase-requires
+phase-requires c κs = search needs
+
+-- src/lib.rt:123:28
+add-phase : tie.Need-add-phase
+add-phase c = search needs
+
+-- src/lib.rt:123:12
+phase-requires-2 : tie.Need-phase-requires-2
+phase-requires-2 c κs = search needs
+
+-- src/lib.rt:124:28
+add-phase-2 : tie.Need-add-phase-2
+add-phase-2 c = search needs
+
+-- src/lib.rt:124:12
+phase-requires-3 : tie.Need-phase-requires-3
+phase-requires-3 c κs = search needs
+
+-- src/lib.rt:125:28
+add-phase-3 : tie.Need-add-phase-3
+add-phase-3 c = search needs
+
+-- src/lib.rt:125:12
+phase-requires-4 : tie.Need-phase-requires-4
+phase-requires-4 c κs = search needs
+
+-- src/lib.rt:126:28
+add-phase-4 : tie.Need-add-phase-4
+add-phase-4 c = search needs
+
+-- src/lib.rt:126:12
+phase-requires-5 : tie.Need-phase-requires-5
+phase-requires-5 c κs = search needs
+
+-- src/lib.rt:127:28
+add-phase-5 : tie.Need-add-phase-5
+add-phase-5 c = search needs
+
+-- src/lib.rt:127:12
+phase-requires-6 : tie.Need-phase-requires-6
+phase-requires-6 c κs = search needs
+
+-- src/lib.rt:128:28
+add-phase-6 : tie.Need-add-phase-6
+add-phase-6 c = search needs
+
+-- src/lib.rt:128:12
+phase-requires-7 : tie.Need-phase-requires-7
+phase-requires-7 c κs = search needs
+
+-- src/lib.rt:129:28
+add-phase-7 : tie.Need-add-phase-7
+add-phase-7 c = search needs
+
+-- src/lib.rt:129:12
+phase-requires-8 : tie.Need-phase-requires-8
+phase-requires-8 c κs = search needs
+
+-- src/lib.rt:117:1
+returns : tie.Need-returns
+returns c = rw add-zero cc
+
+pub phases-spec : {M : Type 1} → statement M
+phases-spec =
+    tie.close
+    (tie.spec
+    phase-requires
+    add-phase
+    phase-requires-2
+    add-phase-2
+    phase-requires-3
+    add-phase-3
+    phase-requires-4
+    add-phase-4
+    phase-requires-5
+    add-phase-5
+    phase-requires-6
+    add-phase-6
+    phase-requires-7
+    add-phase-7
+    phase-requires-8
+    returns)
