@@ -1,9 +1,9 @@
 /*
  * Goqhari: a tape lane, a plate and a look-ahead ceiling at 44,100 Hz, mono in and stereo out.
  *
- * Link build/libgoqhari.a. The library has no heap and no global: all that a strip is stands in memory that the caller lends to
- * each call, and nothing is kept from one call to the next but what stands there. So calls on different strips may run at once,
- * in any threads; calls on one strip come one after the other.
+ * Link build/libgoqhari.a; of the C library it calls memcpy and memset alone. It has no heap and no global: all that a strip is
+ * stands in memory that the caller lends to each call, and nothing is kept from one call to the next but what stands there. So calls
+ * on different strips may run at once, in any threads; calls on one strip come one after the other.
  *
  * A strip is four lists, which the caller owns, allocates (no alignment beyond the type's own) and frees:
  *     numbers   GOQHARI_NUMBERS doubles         the strip, packed

@@ -5,7 +5,7 @@ use native.Mathlib.Omega.{arith}
 use mathlib.Core.Bool.{Bool, true, false, cond, _&&_}
 use mathlib.Core.List.{List, [], _∷_, _++_}
 use lib.Dec.{T, leb, eqb, leb→le, eqb·suc-zero, eqb·suc-suc}
-use lib.ListN.{length, take, length-append}
+use lib.ListN.{length, take, getD, length-append}
 use lib.Ieee.{Float, nan, binary32, binary64, fits}
 use lib.Ieee.Fits.{and-l, and-r}
 use borrow.Author.Tests.{le-leb}
@@ -22,7 +22,7 @@ use Rattle.packing.specs.declared.Unpacked as unpack
 use Rattle.packing.specs.Packing.{toneNumbers, toneTag, padNumbers, padTag, shapeTag, flagged, packedNumbers, packedWords, numberAt, wordAt, isShort, isNought, fixedFits, gradedFits, toneFits, withoutFits, swellFits, padFits, shortsFit, wordsFit, unpackable, toneAt, padAt, shapeOf, flagOf, sectionFrom, lowpassFrom, onePoleFrom, rampFrom, setupFrom, tapeFrom, plateFrom, ceilingFrom, stripFrom, unpacked}
 use Rattle.packing.specs.Inverse.{ToneSingle, PadSingle, Single, Singles, Inverse}
 use Rattle.packing.proofs.Floats.{narrowed-own, short-is, nought-is, short-back, nought-back}
-use Rattle.packing.proofs.Spread.{numbers-length, words-length, elements, elements-are}
+use Rattle.packing.proofs.Spread.{front, behind, numbers-front, numbers-length, words-length, elements, elements-are}
 use Rattle.packing.proofs.Read.{Reads, Read, read}
 
 -- ---- bools and shapes
@@ -49,73 +49,69 @@ shape-small Db = refl
 
 -- ---- a packed strip is read back
 
--- the strip with another tone and pad
-abbrev toned : Strip → Tone → Pad → Strip
-toned s t p =
-    record {
-      position = s .position;
-      setup =
-          record {
-            tape = record { tone = t; pad = p; darkened = s .setup .tape .darkened; input = s .setup .tape .input; output = s .setup .tape .output; ducked = s .setup .tape .ducked };
-            daylight = s .setup .daylight;
-            rain = s .setup .rain;
-            send = s .setup .send;
-          };
-      points = s .points;
-      daylight = s .daylight;
-      rain = s .rain;
-      tape = s .tape;
-      plate = s .plate;
-      ceiling = s .ceiling;
-    }
+tone-is : (t : Tone) (p : Pad) (l : List Float) → ToneSingle t → toneAt (front t p l) (toneTag t) ≡ t
+unfolding toneNumbers toneTag toneAt
+tone-is (Fixed a b) p l x = rw (narrowed-own a x)
+tone-is (Graded a b c d) p l x = rw (narrowed-own a (x .0), narrowed-own b (x .1), narrowed-own c (x .2), narrowed-own d (x .3))
 
-module _ (s : Strip) (ns : List Float) (ws : List ℕ) (d : Single (s .setup .daylight)) (r : Single (s .setup .rain)) where
-  abbrev numbers : Tone → Pad → List Float
-  numbers t p = packedNumbers (toned s t p) ++ ns
+pad-is : (t : Tone) (p : Pad) (l : List Float) → PadSingle p → padAt (front t p l) (padTag p) ≡ p
+unfolding padNumbers padTag padAt
+pad-is t Without l y = refl
+pad-is t (Swell h k) l y = rw (narrowed-own h (y .0), narrowed-own k (y .1))
 
-  abbrev words : Tone → Pad → List ℕ
-  words t p = packedWords (toned s t p) ++ ws
+corner-fits : (t : Tone) → ToneSingle t → isShort (getD (toneNumbers t) 0 nan) ≡ true
+unfolding toneNumbers
+corner-fits (Fixed a b) x = short-is a x
+corner-fits (Graded a b c d) x = short-is a (x .0)
 
-  strip-is : (t : Tone) (p : Pad) → ToneSingle t → PadSingle p → stripFrom (numbers t p) (words t p) ≡ toned s t p
-  unfolding packedNumbers packedWords toneNumbers toneTag padNumbers padTag stripFrom setupFrom tapeFrom plateFrom ceilingFrom rampFrom lowpassFrom sectionFrom onePoleFrom toneAt padAt
-  strip-is (Fixed a b) Without x y = rw (narrowed-own a x, narrowed-own _ d, narrowed-own _ r, flag-is (s .setup .tape .darkened), flag-is (s .setup .tape .ducked), shape-is (s .daylight .shape), shape-is (s .rain .shape))
-  strip-is (Fixed a b) (Swell h k) x y = rw (narrowed-own a x, narrowed-own h (y .0), narrowed-own k (y .1), narrowed-own _ d, narrowed-own _ r, flag-is (s .setup .tape .darkened), flag-is (s .setup .tape .ducked), shape-is (s .daylight .shape), shape-is (s .rain .shape))
-  strip-is (Graded a b e f) Without x y = rw (narrowed-own a (x .0), narrowed-own b (x .1), narrowed-own e (x .2), narrowed-own f (x .3), narrowed-own _ d, narrowed-own _ r, flag-is (s .setup .tape .darkened), flag-is (s .setup .tape .ducked), shape-is (s .daylight .shape), shape-is (s .rain .shape))
-  strip-is (Graded a b e f) (Swell h k) x y = rw (narrowed-own a (x .0), narrowed-own b (x .1), narrowed-own e (x .2), narrowed-own f (x .3), narrowed-own h (y .0), narrowed-own k (y .1), narrowed-own _ d, narrowed-own _ r, flag-is (s .setup .tape .darkened), flag-is (s .setup .tape .ducked), shape-is (s .daylight .shape), shape-is (s .rain .shape))
+tone-fits : (t : Tone) (p : Pad) (l : List Float) → ToneSingle t → toneFits (front t p l) (toneTag t) ≡ true
+unfolding toneNumbers toneTag toneFits fixedFits gradedFits
+tone-fits (Fixed a b) p l x = rw (nought-is)
+tone-fits (Graded a b c d) p l x = rw (short-is b (x .1), short-is c (x .2), short-is d (x .3))
 
-  tone-fits : (t : Tone) (p : Pad) → ToneSingle t → toneFits (numbers t p) (wordAt (words t p) 1) ≡ true
-  unfolding packedNumbers packedWords toneNumbers toneTag padNumbers padTag toneFits fixedFits gradedFits
-  tone-fits (Fixed a b) p x = rw (nought-is)
-  tone-fits (Graded a b e f) p x = rw (short-is b (x .1), short-is e (x .2), short-is f (x .3))
+pad-fits : (t : Tone) (p : Pad) (l : List Float) → PadSingle p → padFits (front t p l) (padTag p) ≡ true
+unfolding padNumbers padTag padFits withoutFits swellFits
+pad-fits t Without l y = rw (nought-is)
+pad-fits t (Swell h k) l y = rw (short-is h (y .0), short-is k (y .1))
 
-  pad-fits : (t : Tone) (p : Pad) → PadSingle p → padFits (numbers t p) (wordAt (words t p) 2) ≡ true
-  unfolding packedNumbers packedWords toneNumbers toneTag padNumbers padTag padFits withoutFits swellFits
-  pad-fits (Fixed a b) Without y = rw (nought-is)
-  pad-fits (Fixed a b) (Swell h k) y = rw (short-is h (y .0), short-is k (y .1))
-  pad-fits (Graded a b e f) Without y = rw (nought-is)
-  pad-fits (Graded a b e f) (Swell h k) y = rw (short-is h (y .0), short-is k (y .1))
+module _ (s : Strip) (h : Singles s) (ns : List Float) (ws : List ℕ) where
+  abbrev t : Tone
+  t = s .setup .tape .tone
 
-  shorts-fit : (t : Tone) (p : Pad) → ToneSingle t → shortsFit (numbers t p) ≡ true
-  unfolding packedNumbers toneNumbers padNumbers shortsFit
-  shorts-fit (Fixed a b) Without x = rw (short-is a x, short-is _ d, short-is _ r)
-  shorts-fit (Fixed a b) (Swell h k) x = rw (short-is a x, short-is _ d, short-is _ r)
-  shorts-fit (Graded a b e f) Without x = rw (short-is a (x .0), short-is _ d, short-is _ r)
-  shorts-fit (Graded a b e f) (Swell h k) x = rw (short-is a (x .0), short-is _ d, short-is _ r)
+  abbrev p : Pad
+  p = s .setup .tape .pad
 
-  words-fit : (t : Tone) (p : Pad) → wordsFit (words t p) ≡ true
+  strip-is : stripFrom (front t p (behind s ++ ns)) (packedWords s ++ ws) ≡ s
+  unfolding packedWords stripFrom setupFrom tapeFrom plateFrom ceilingFrom rampFrom lowpassFrom sectionFrom onePoleFrom
+  strip-is =
+      rw (tone-is t p (behind s ++ ns) (h .tone))
+      (rw (pad-is t p (behind s ++ ns) (h .pad))
+      (rw (narrowed-own (s .setup .daylight) (h .daylight))
+      (rw (narrowed-own (s .setup .rain) (h .rain))
+      (rw (flag-is (s .setup .tape .darkened)) (rw (flag-is (s .setup .tape .ducked)) (rw (shape-is (s .daylight .shape)) (rw (shape-is (s .rain .shape)))))))))
+
+  shorts-fit : shortsFit (front t p (behind s ++ ns)) ≡ true
+  unfolding shortsFit
+  shorts-fit = rw (corner-fits t (h .tone), short-is (s .setup .daylight) (h .daylight), short-is (s .setup .rain) (h .rain))
+
+  words-fit : wordsFit (packedWords s ++ ws) ≡ true
   unfolding packedWords wordsFit
-  words-fit t p = rw (flag-small (s .setup .tape .darkened), flag-small (s .setup .tape .ducked), shape-small (s .daylight .shape), shape-small (s .rain .shape))
+  words-fit = rw (flag-small (s .setup .tape .darkened), flag-small (s .setup .tape .ducked), shape-small (s .daylight .shape), shape-small (s .rain .shape))
 
-  fits-all : (t : Tone) (p : Pad) → ToneSingle t → PadSingle p → unpackable (numbers t p) (words t p) ≡ true
-  unfolding unpackable
-  fits-all t p x y =
-      let l : 85 ≤ length (numbers t p) = rw (length-append (packedNumbers (toned s t p)) ns, numbers-length (toned s t p)) (omega arith) in
-      let w : 18 ≤ length (words t p) = rw (length-append (packedWords (toned s t p)) ws, words-length (toned s t p)) (omega arith) in
-      rw (le-leb 85 _ l, le-leb 18 _ w, shorts-fit t p x, tone-fits t p x, pad-fits t p y, words-fit t p)
+  all-fit : unpackable (front t p (behind s ++ ns)) (packedWords s ++ ws) ≡ true
+  unfolding unpackable packedWords
+  all-fit =
+      let l : 85 ≤ length (packedNumbers s ++ ns) = rw (length-append (packedNumbers s) ns, numbers-length s) (omega arith) in
+      let w : 18 ≤ length (packedWords s ++ ws) = rw (length-append (packedWords s) ws, words-length s) (omega arith) in
+      rw (le-leb 85 _ (subst (λ (q : List Float). 85 ≤ length q) (numbers-front s ns) l))
+      (rw (le-leb 18 _ w) (rw shorts-fit (rw (tone-fits t p (behind s ++ ns) (h .tone)) (rw (pad-fits t p (behind s ++ ns) (h .pad)) (rw words-fit)))))
 
-  pub packs : (t : Tone) (p : Pad) → ToneSingle t → PadSingle p → unpacked (numbers t p) (words t p) ≡ unpack.the-variants.Strip (toned s t p)
+  front-back : unpacked (front t p (behind s ++ ns)) (packedWords s ++ ws) ≡ unpack.the-variants.Strip s
   unfolding unpacked
-  packs t p x y = rw (fits-all t p x y) (ap unpack.the-variants.Strip (strip-is t p x y))
+  front-back = rw all-fit (ap unpack.the-variants.Strip strip-is)
+
+  packed-back : unpacked (packedNumbers s ++ ns) (packedWords s ++ ws) ≡ unpack.the-variants.Strip s
+  packed-back = ap (λ (l : List Float). unpacked l (packedWords s ++ ws)) (numbers-front s ns) ∙ front-back
 
 -- ---- what was read is packed as it was
 
@@ -212,6 +208,6 @@ same-back s ns ws f e =
 pub inverse : Inverse
 inverse =
     record {
-      back = λ s h ns ws. packs s ns ws (h .daylight) (h .rain) (s .setup .tape .tone) (s .setup .tape .pad) (h .tone) (h .pad);
+      back = packed-back;
       same = same-back;
     }

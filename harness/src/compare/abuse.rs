@@ -167,7 +167,7 @@ fn number(rng: &mut Rng) -> f64 {
 
 /// Sets elements anywhere: a few, or as many as the list has.
 fn scatter<T>(rng: &mut Rng, list: &mut [T], value: fn(&mut Rng) -> T) {
-    if list.is_empty() || rng.flag() {
+    if list.is_empty() {
         return;
     }
     let many = if rng.once_in(8) { list.len() as u64 } else { rng.within(1, 4) };
@@ -179,7 +179,7 @@ fn scatter<T>(rng: &mut Rng, list: &mut [T], value: fn(&mut Rng) -> T) {
 
 /// How much is lent of a list that has `has` elements and of which `asked` are asked: mostly enough.
 fn lent(rng: &mut Rng, has: usize, asked: usize) -> usize {
-    match rng.below(24) {
+    match rng.below(72) {
         0 => rng.below(asked as u64) as usize,
         1 => asked - 1,
         2 => 0,
@@ -200,10 +200,16 @@ fn anything(rng: &mut Rng, report: &mut Report, tally: &mut Tally) {
     let mut setup = Setup::drawn(rng, 400);
     let mut memory = good(rng, &setup, len, 16);
     for _ in 0..rng.within(1, 6) {
-        scatter(rng, &mut memory.numbers, number);
-        scatter(rng, &mut memory.words, word);
-        scatter(rng, &mut memory.store, number);
-        scatter(rng, &mut memory.counts, word);
+        match rng.below(8) {
+            0 => scatter(rng, &mut memory.numbers, number),
+            1 => scatter(rng, &mut memory.words, word),
+            2 => scatter(rng, &mut memory.counts, word),
+            // the filters' numbers and the lines, of which 4 asks nothing
+            3 => scatter(rng, &mut memory.numbers[15..84], number),
+            4 | 5 => scatter(rng, &mut memory.store[..NEEDS_AT], number),
+            6 => scatter(rng, &mut memory.store, number),
+            _ => {}
+        }
         one_call(rng, report, tally, &mut setup, &mut memory);
     }
 }
