@@ -50,7 +50,7 @@ extern "C" {
 #define GOQHARI_LATENCY 220
 /* A gain is its count over this, 221 * 2^40. */
 #define GOQHARI_GAIN_UNIT UINT64_C(242992069738496)
-/* What no delivered side exceeds in size. */
+/* What no delivered side exceeds in size, a NaN apart. */
 #define GOQHARI_CEILING 0.8912509f
 
 /* ---- answers */

@@ -1,2 +1,3 @@
--- How each call ends.
+-- How each call ends; a list of calls.
 pub mod Ends
+pub mod Joined

@@ -1,2 +1,3 @@
--- The four calls on a packed strip.
+-- The four calls on a packed strip, and what a list of them is promised.
 pub mod Library
+pub mod Promise
