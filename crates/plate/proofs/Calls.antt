@@ -1,5 +1,5 @@
 -- What the calls of a function give, put together as its definition. Assumes nothing.
-use mathlib.Core.Path.{_≡_}
+use mathlib.Core.Path.{_≡_, refl, sym, ap, _∙_}
 use Prim.Native.Nat.{ℕ, _+_, _-_, _≤_}
 use mathlib.Core.List.{List}
 use lib.ListN.{length}
@@ -20,7 +20,7 @@ use Rattle.allpass.specs.Allpass.{storedOf, gave, latticeOn, stretchedOn, delay
 use Rattle.plate.specs.declared.Tank.{Tank}
 use Rattle.plate.specs.declared.Plate.{Plate}
 use Rattle.plate.specs.Machine.{inputDiffusion1, inputDiffusion2, decayDiffusion1, stretchOf}
-use Rattle.plate.specs.Plate.{inputOn, halfIn, halfOn, leavingOn, tapsOn, TankIn, tankIn, fedOn, halvesOn, returnedOn, tankOn, plateOn, plateStepOn}
+use Rattle.plate.specs.Plate.{inputOn, halfIn, dampedTo, halfOn, leavingOn, tapsOn, TankIn, tankIn, fedOn, halvesOn, returnedOn, tankOn, plateOn, plateStepOn}
 use Rattle.plate.proofs.Parts.{first-is, second-is, second-after, put-both}
 
 pub input-is : (r : InputRate) (n : ℕ) (s : List Float) (x : Float) (p a b c d : Step (List Float) Float) → p ≡ delayOn (r .predelay) n s x
@@ -32,6 +32,10 @@ pub input-is : (r : InputRate) (n : ℕ) (s : List Float) (x : Float) (p a b c d
 unfolding inputOn
 input-is r n s x p a b c d e1 e2 e3 e4 e5 = rw (e5, e4, e3, e2, e1)
 
+pole-kept : (q : OnePole) (x : Float) → dampedTo q (onePoleStep q x .y) ≡ onePoleStep q x
+unfolding onePoleStep
+pole-kept q x = refl
+
 module _ (r : HalfRate) (decay diffusion : Float) (n : ℕ) (q : OnePole) (s : List Float) (fed stretch : Float) where
   pub half-is : (a b d : Step (List Float) Float) (u v : Float) (damping : OnePole) (l : List Float)
       → a ≡ stretchedOn (r .diffuser1) (r .reach) stretch decayDiffusion1 n s fed
@@ -41,17 +45,18 @@ module _ (r : HalfRate) (decay diffusion : Float) (n : ℕ) (q : OnePole) (s : L
       → d ≡ latticeOn (r .diffuser2) diffusion n (b .next) (damping .y ⊗ decay)
       → v ≡ storedOf (d .out)
       → l ≡ linePush (r .delay2 .line) (d .next) n v
-      → halfIn damping l ≡ halfOn r decay diffusion n (halfIn q s) fed stretch
+      → halfIn (dampedTo q (damping .y)) l ≡ halfOn r decay diffusion n (halfIn q s) fed stretch
   unfolding halfOn
-  half-is a b d u v damping l e1 e2 e3 e4 e5 e6 e7 = rw (e7, e6, e5, e4, e3, e2, e1)
+  half-is a b d u v damping l e1 e2 e3 e4 e5 e6 e7 =
+      ap (λ (p : OnePole). halfIn p l) (ap (λ (p : OnePole). dampedTo q (p .y)) e4 ∙ pole-kept q (b .out) ∙ sym e4) ∙ rw (e7, e6, e5, e4, e3, e2, e1)
 
 -- ---- the halves, each on its own places of the tank's part
 
 module _ (r : PlateRate) (n : ℕ) (s : List Float) (room : r .left .places ≤ length s) where
-  pub halves-is : (tank : Tank) (fed stretch : Frame) (left right : OnePole) (ys zs : List Float) → length ys ≡ r .left .places
-      → halfIn left ys ≡ halfOn (r .left) (r .decay) (r .diffusion) n (halfIn (tank .left) (midOf 0 (r .left .places - 0) s)) (fed .left) (stretch .left)
-      → halfIn right zs ≡ halfOn (r .right) (r .decay) (r .diffusion) n (halfIn (tank .right) (midOf (r .left .places) (length s - r .left .places) (putMid 0 (r .left .places - 0) s ys))) (fed .right) (stretch .right)
-      → tankIn (record { left = left; right = right }) (putMid (r .left .places) (length s - r .left .places) (putMid 0 (r .left .places - 0) s ys) zs) ≡ halvesOn r n (tankIn tank s) fed stretch
+  pub halves-is : (tank : Tank) (fed stretch : Frame) (left right : Float) (ys zs : List Float) → length ys ≡ r .left .places
+      → halfIn (dampedTo (tank .left) left) ys ≡ halfOn (r .left) (r .decay) (r .diffusion) n (halfIn (tank .left) (midOf 0 (r .left .places - 0) s)) (fed .left) (stretch .left)
+      → halfIn (dampedTo (tank .right) right) zs ≡ halfOn (r .right) (r .decay) (r .diffusion) n (halfIn (tank .right) (midOf (r .left .places) (length s - r .left .places) (putMid 0 (r .left .places - 0) s ys))) (fed .right) (stretch .right)
+      → tankIn (record { left = dampedTo (tank .left) left; right = dampedTo (tank .right) right }) (putMid (r .left .places) (length s - r .left .places) (putMid 0 (r .left .places - 0) s ys) zs) ≡ halvesOn r n (tankIn tank s) fed stretch
   unfolding halvesOn
   halves-is tank fed stretch left right ys zs l e1 e2 =
       let f1 = rw (first-is s (r .left .places) room) at e1 in

@@ -41,6 +41,10 @@ pub record HalfIn : Type 0 where
 abbrev pub halfIn : OnePole → List Float → HalfIn
 halfIn damping part = record { damping = damping; part = part }
 
+-- a damping whose last output is y
+abbrev pub dampedTo : OnePole → Float → OnePole
+dampedTo p y = record { pole = p .pole; y = y }
+
 unfoldable pub halfOn : HalfRate → Float → Float → ℕ → HalfIn → Float → Float → HalfIn
 halfOn r decay diffusion n s fed stretch =
     let a = stretchedOn (r .diffuser1) (r .reach) stretch decayDiffusion1 n (s .part) fed in

@@ -20,7 +20,7 @@ ghost use Rattle.stage.specs.Stage.{ran, outs};
 ghost use Rattle.allpass.specs.Allpass.{gave};
 ghost use Rattle.rate.specs.Plate.{InputUsable, HalfUsable, TapsUsable, PlateUsable};
 ghost use Rattle.plate.specs.Machine.{turnOf, stretchOf};
-ghost use Rattle.plate.specs.Plate.{Stretched, inputOn, halfIn, halfOn, leavingOn, tapsOn, tankIn, fedOn, halvesOn, returnedOn, tankOn, plateOn, plateStepOn, freshOn, quietOf, atRestOn, partOf};
+ghost use Rattle.plate.specs.Plate.{Stretched, inputOn, halfIn, dampedTo, halfOn, leavingOn, tapsOn, tankIn, fedOn, halvesOn, returnedOn, tankOn, plateOn, plateStepOn, freshOn, quietOf, atRestOn, partOf};
 
 const INPUT_DIFFUSION_1: f64 = 0.75;
 
@@ -71,7 +71,7 @@ fn input(rate: InputRate, part: &mut [f64], x: f64, n: u64) -> f64
     allpass::lattice(rate.diffuser4, part, INPUT_DIFFUSION_2, c, n)
 }
 
-// One half of the tank.
+// One half of the tank; its damping's output.
 fn half(
     rate: HalfRate,
     decay: f64,
@@ -81,10 +81,10 @@ fn half(
     fed: f64,
     stretch: f64,
     n: u64,
-) -> OnePole
+) -> f64
     requires { ⌜ HalfUsable rate ⌝ }
     requires { ⌜ (length (now part) ≡ rate .places) × (n < 4294967296) ⌝ }
-    ensures { λ r. ⌜ halfIn r (now (part .exit)) ≡ halfOn rate decay diffusion n (halfIn damping (now (part .entry))) fed stretch ⌝ }
+    ensures { λ r. ⌜ halfIn (dampedTo damping r) (now (part .exit)) ≡ halfOn rate decay diffusion n (halfIn damping (now (part .entry))) fed stretch ⌝ }
 {
     let a = allpass::stretched(
         rate.diffuser1,
@@ -100,7 +100,7 @@ fn half(
     let d = allpass::lattice(rate.diffuser2, part, diffusion, damping.y * decay, n);
     let e = allpass::stored(d);
     rate.delay2.line.push(part, n, e);
-    damping
+    damping.y
 }
 
 // The sample leaving a half on this frame, before its pushes.
@@ -250,7 +250,16 @@ fn halves(rate: PlateRate, tank: Tank, part: &mut [f64], fed: Frame, stretch: Fr
         stretch.right,
         n,
     );
-    Tank { left, right }
+    Tank {
+        left: OnePole {
+            pole: tank.left.pole,
+            y: left,
+        },
+        right: OnePole {
+            pole: tank.right.pole,
+            y: right,
+        },
+    }
 }
 
 // Both sides' taps, n samples being pushed.
