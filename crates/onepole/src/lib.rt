@@ -44,6 +44,15 @@ impl OnePole {
         Tilted { lp, out }
     }
 
+    // The same by a reference: the one-pole that is lent becomes the one after x, and the output is handed back.
+    pub fn tilt_in_place(&mut self, lift: f64, x: f64) -> f64
+        ensures { λ r. ⌜ (now (self .exit) ≡ tiltStep (now (self .entry)) lift x .lp) × (r ≡ tiltStep (now (self .entry)) lift x .out) ⌝ }
+    {
+        let tilted = self.tilt(lift, x);
+        *self = tilted.lp;
+        tilted.out
+    }
+
     // Whether its past is zero.
     pub fn at_rest(self) -> bool
         ensures { λ r. ⌜ r ≡ onePoleAtRest self ⌝ }

@@ -6,6 +6,7 @@ ghost use mathlib.Core.List.{map};
 ghost use Prim.Native.Nat.{_+_, _<_, _≤_};
 ghost use lib.ListN.{length};
 ghost use Rattle.stage.specs.Stage.{ran, outs};
+ghost use Rattle.onepole.specs.OnePole.{tiltStep};
 ghost use Rattle.duck.specs.Cursors.{duckOn, Within};
 ghost use Rattle.tape.specs.Tape.{swellOf, warpDelay, saturated, liftAt, equalizerStep, equalizerAtRest, freshTape};
 ghost use Rattle.tape.specs.Kept.{frontStepOn, frontOn, frontGave, saturatedOver, equalizerGave, duckedStepOn, tapeOn, tapeTuned, WarpFits, tapeAtRestOn};
@@ -16,6 +17,7 @@ use biquad::Section;
 use duck::Duck;
 use duck::DuckRate;
 use onepole::OnePole;
+use onepole::Tilted;
 use ramp::Ramp;
 use rate::TapeRate;
 
@@ -136,6 +138,14 @@ fn front_step(
     Fronted { tone: toned, y }
 }
 
+// The tilt: it lends the one-pole to its step.
+fn tilt(mut lp: OnePole, lift: f64, x: f64) -> Tilted
+    ensures { λ r. ⌜ r ≡ tiltStep lp lift x ⌝ }
+{
+    let out = lp.tilt_in_place(lift, x);
+    Tilted { lp, out }
+}
+
 // Head bump, rolloff, tilt, gain out.
 fn equalizer_step(setup: TapeSetup, rain: Ramp, equalizer: Equalizer, n: u64, x: f64) -> Equalized
     ensures { λ r. ⌜ equalizerGave (r .equalizer) (r .y) ≡ equalizerStep setup rain n equalizer x ⌝ }
@@ -144,9 +154,11 @@ fn equalizer_step(setup: TapeSetup, rain: Ramp, equalizer: Equalizer, n: u64, x:
     let rolloff = equalizer
         .rolloff
         .step(x + casts::widen(HEAD_BUMP_MIX) * bump.y1);
-    let tilted = equalizer
-        .tilt
-        .tilt(lift(setup.darkened, rain, n), rolloff.second.y1);
+    let tilted = tilt(
+        equalizer.tilt,
+        lift(setup.darkened, rain, n),
+        rolloff.second.y1,
+    );
     let tilt = tilted.lp;
     Equalized {
         equalizer: Equalizer {
