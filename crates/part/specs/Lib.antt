@@ -1,3 +1,3 @@
--- Whole effects of open and of its pieces as one value.
+-- Whole effects of the calls and of their pieces as one value.
 pub mod Pieces
 pub mod Run

@@ -1,4 +1,5 @@
--- Document 01, 'When the part declines'. Each ground is a test that is true where the part does not decline; `refusal` has the numbers and their order.
+-- Document 01, 'When the part declines'. Each ground is a test that is true where the part does not decline. `openRefusal`, `runRefusal` and `latchRefusal` have the numbers and
+-- their order; `first` in Calls puts 1 and 4 before a call's own.
 use Prim.Native.Nat.{ℕ, _+_, _*_}
 use mathlib.Core.Bool.{Bool, true, false, cond, _&&_}
 use mathlib.Core.List.{List, [], _∷_}
