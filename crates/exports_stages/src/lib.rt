@@ -1,8 +1,9 @@
 // C functions for the Rust harness beside the part: a fresh tape lane, plate or ceiling over a whole signal, in calls of the
 // lengths that are given. Only the harness and the replay use them. Rust promises nothing of what it passes: lengths and
 // bounds are tested first, and nothing is done where they do not hold.
-ghost use Prim.Native.Nat.{_<_, _≤_, _*_, _/_};
+ghost use Prim.Native.Nat.{_+_, _<_, _≤_, _*_, _/_};
 ghost use mathlib.Core.Path.{_≡_};
+ghost use mathlib.Core.Bool.{true};
 ghost use lib.ListN.{length};
 ghost use lib.Dec.{T};
 ghost use Rattle.rate.specs.Ceiling.{ceilingRate};
@@ -66,12 +67,47 @@ fn piece_end(at: usize, len: u64, most: usize) -> usize
     most
 }
 
+// Whether a call of len samples at n ends by the last position.
+fn in_time(n: u64, len: usize) -> bool
+    ensures { λ r. ⌜ (r ≡ true → n + len ≤ 4294967296) ⌝ }
+{
+    if LAST < n {
+        return false;
+    }
+    if LAST - n < len as u64 {
+        return false;
+    }
+    true
+}
+
 // ---- the tape lane
 
 struct Lane {
     daylight: Ramp,
     rain: Ramp,
     tape: Tape,
+}
+
+// Whether the lengths of a lane's parts and its duck fit, and a block of len samples at n.
+fn lane_fits(ring: usize, counts: usize, duck: Duck, n: u64, len: usize) -> bool
+    ensures { λ r. ⌜ (r ≡ true → (ring ≡ 64) × (2048 ≤ counts) × (duck .count ≤ 1024) × (duck .reached ≤ duck .count) × (duck .ducking ≤ duck .count) × (n + len ≤ 4294967296)) ⌝ }
+{
+    if ring != WARP {
+        return false;
+    }
+    if counts < 2048 {
+        return false;
+    }
+    if 1024 < duck.count {
+        return false;
+    }
+    if duck.count < duck.reached {
+        return false;
+    }
+    if duck.count < duck.ducking {
+        return false;
+    }
+    in_time(n, len)
 }
 
 // A block of one tuning, if all fits.
@@ -86,41 +122,30 @@ fn tuned(
     n: u64,
     drums: bool,
 ) -> Tape {
-    if ring.len() != WARP {
-        return tape;
-    }
-    if counts.len() < 2048 {
-        return tape;
-    }
     let duck = tape.duck;
-    if 1024 < duck.count {
-        return tape;
+    if lane_fits(ring.len(), counts.len(), duck, n, block.len()) {
+        let rate = TapeRate::cd();
+        return tape::tape_block(
+            rate,
+            setup,
+            rain,
+            drive,
+            tape,
+            ring,
+            counts,
+            block,
+            n,
+            drums,
+        );
     }
-    if duck.count < duck.reached {
-        return tape;
-    }
-    if duck.count < duck.ducking {
-        return tape;
-    }
-    if LAST < n {
-        return tape;
-    }
-    if LAST - n < block.len() as u64 {
-        return tape;
-    }
-    let rate = TapeRate::cd();
-    tape::tape_block(
-        rate,
-        setup,
-        rain,
-        drive,
-        tape,
-        ring,
-        counts,
-        block,
-        n,
-        drums,
-    )
+    tape
+}
+
+fn retuned(tape: Tape, corner: f32) -> Tape {
+    let mut tape = tape;
+    let tone = tape.tone.retuned(corner, TapeRate::HZ);
+    tape.tone = tone;
+    tape
 }
 
 // A run, piece by piece.
@@ -128,7 +153,9 @@ fn run(
     setup: TapeSetup,
     points: &[u64],
     values: &[f64],
-    lane: Lane,
+    daylight: Ramp,
+    rain: Ramp,
+    tape: Tape,
     ring: &mut [f64],
     counts: &mut [u64],
     block: &mut [f64],
@@ -138,20 +165,16 @@ fn run(
     requires { ⌜ (length (now points) ≤ length (now values)) × (n ≤ 4294967296) ⌝ }
 {
     let own = setup.tone;
-    let daylight = lane.daylight;
-    let rain = lane.rain;
-    let mut tape = lane.tape;
+    let mut tape = tape;
     let mut at: usize = 0;
     while at < block.len() {
         let piece = automation::piece_at(own, daylight, points, values, n + at as u64);
         let end = piece_end(at, piece.len, block.len());
-        let tone = tape.tone.retuned(piece.tuning.corner, TapeRate::HZ);
-        tape.tone = tone;
         tape = tuned(
             setup,
             rain,
             piece.tuning.drive,
-            tape,
+            retuned(tape, piece.tuning.corner),
             ring,
             counts,
             &mut block[at..end],
@@ -224,19 +247,21 @@ fn called(
     if LAST < n {
         return lane;
     }
+    let daylight = lane.daylight;
+    let rain = lane.rain;
     let tape = run(
         setup,
         points,
         values,
-        lane,
+        daylight,
+        rain,
+        lane.tape,
         ring,
         counts,
         block,
         n,
         call.second != 0,
     );
-    let daylight = lane.daylight;
-    let rain = lane.rain;
     Lane {
         daylight,
         rain,
@@ -319,22 +344,26 @@ pub extern "C" fn goqhari_test_tape(
 
 // ---- the plate
 
+// Whether the lengths of the plate's part and of a call at n fit.
+fn plate_fits(part: usize, left: usize, right: usize, n: u64) -> bool
+    ensures { λ r. ⌜ (r ≡ true → (part ≡ 47104) × (right ≡ left) × (n + left ≤ 4294967296)) ⌝ }
+{
+    if part != LINES {
+        return false;
+    }
+    if right != left {
+        return false;
+    }
+    in_time(n, left)
+}
+
 // A call, if all fits.
 fn plated(plate: Plate, part: &mut [f64], left: &mut [f64], right: &mut [f64], n: u64) -> Plate {
-    if part.len() != LINES {
-        return plate;
+    if plate_fits(part.len(), left.len(), right.len(), n) {
+        let rate = PlateRate::cd();
+        return plate::block(rate, plate, part, left, right, n);
     }
-    if right.len() != left.len() {
-        return plate;
-    }
-    if LAST < n {
-        return plate;
-    }
-    if LAST - n < left.len() as u64 {
-        return plate;
-    }
-    let rate = PlateRate::cd();
-    plate::block(rate, plate, part, left, right, n)
+    plate
 }
 
 fn all_plated(
@@ -382,6 +411,25 @@ pub extern "C" fn goqhari_test_plate(
 
 // ---- the ceiling
 
+// Whether a call's inputs and outputs have one length, and it ends in time.
+fn call_fits(left: usize, right: usize, frames: usize, gains: usize, n: u64) -> bool
+    ensures { λ r. ⌜ (r ≡ true → (right ≡ left) × (gains ≡ left) × (frames ≡ 2 * left) × (n + left ≤ 4294967296)) ⌝ }
+{
+    if right != left {
+        return false;
+    }
+    if gains != left {
+        return false;
+    }
+    if frames % 2 != 0 {
+        return false;
+    }
+    if frames / 2 != left {
+        return false;
+    }
+    in_time(n, left)
+}
+
 // A call. A well-formed ceiling stays so, hence the test at the start alone.
 fn limited(
     c: Ceiling,
@@ -397,26 +445,11 @@ fn limited(
     requires { ⌜ T (wellFormed (ceilingRate 44100) (ceilingOn c (now samples) (now counts))) ⌝ }
     ensures { λ r. ⌜ T (wellFormed (ceilingRate 44100) (ceilingOn r (now (samples .exit)) (now (counts .exit)))) ⌝ }
 {
-    if LAST < n {
-        return c;
+    if call_fits(left.len(), right.len(), frames.len(), gains.len(), n) {
+        let rate = CeilingRate::cd();
+        return master::block(rate, c, samples, counts, n, left, right, frames, gains);
     }
-    if LAST - n < left.len() as u64 {
-        return c;
-    }
-    if right.len() != left.len() {
-        return c;
-    }
-    if gains.len() != left.len() {
-        return c;
-    }
-    if frames.len() % 2 != 0 {
-        return c;
-    }
-    if frames.len() / 2 != left.len() {
-        return c;
-    }
-    let rate = CeilingRate::cd();
-    master::block(rate, c, samples, counts, n, left, right, frames, gains)
+    c
 }
 
 fn all_limited(
@@ -474,24 +507,11 @@ pub extern "C" fn goqhari_test_ceiling(
     if counts.len() < STEPS {
         return;
     }
-    if LAST < left.len() as u64 {
-        return;
-    }
-    if right.len() != left.len() {
-        return;
-    }
-    if gains.len() != left.len() {
-        return;
-    }
-    if frames.len() % 2 != 0 {
-        return;
-    }
-    if frames.len() / 2 != left.len() {
-        return;
-    }
-    let rate = CeilingRate::cd();
-    let c = master::fresh(rate, samples, counts);
-    if master::well_formed(rate, c, samples, counts) {
-        all_limited(c, samples, counts, left, right, frames, gains, calls);
+    if call_fits(left.len(), right.len(), frames.len(), gains.len(), 0) {
+        let rate = CeilingRate::cd();
+        let c = master::fresh(rate, samples, counts);
+        if master::well_formed(rate, c, samples, counts) {
+            all_limited(c, samples, counts, left, right, frames, gains, calls);
+        }
     }
 }

@@ -8,10 +8,10 @@ use Rattle.exports_stages.proofs.run.Statement.{statement}
 use Rattle.exports_stages.proofs.run.Tie as tie
 
 abbrev Inv-loop : tie.InvT-loop
-Inv-loop setup points values ring₀ counts₀ block₀ n drums own daylight rain tape₀ at₀ ring counts block tape at = (length ring ≡ length ring₀) × (length counts ≡ length counts₀) × (length block ≡ length block₀) × (at ≤ length block₀)
+Inv-loop setup points values daylight rain ring₀ counts₀ block₀ n drums own tape₀ at₀ ring counts block tape at = (length ring ≡ length ring₀) × (length counts ≡ length counts₀) × (length block ≡ length block₀) × (at ≤ length block₀)
 
 abbrev μ-loop : tie.MeasureT-loop
-μ-loop setup points values ring₀ counts₀ block₀ n drums own daylight rain tape₀ at₀ ring counts block tape at = length block₀ - at
+μ-loop setup points values daylight rain ring₀ counts₀ block₀ n drums own tape₀ at₀ ring counts block tape at = length block₀ - at
 
 loop-holds : tie.Need-loop-holds Inv-loop μ-loop
 loop-holds c = search needs
@@ -29,7 +29,7 @@ retuned-requires : tie.Need-retuned-requires Inv-loop μ-loop
 retuned-requires c κs = search needs
 
 mul-tuned : tie.Need-mul-tuned Inv-loop μ-loop
-mul-tuned c = omega (arith, c .before .before .before .before .before .before .loop .inv, c .before .before .before .before .before .loop-test, c .before .before .before .before .before .before .before .before .before .before .before .before .before .before .before .good)
+mul-tuned c = omega (arith, c .before .before .before .before .before .before .loop .inv, c .before .before .before .before .before .loop-test, c .before .before .before .before .before .before .before .before .before .before .before .before .good)
 
 sub-tuned : tie.Need-sub-tuned Inv-loop μ-loop
 sub-tuned c = search needs
@@ -41,7 +41,7 @@ part-tuned-end : tie.Need-part-tuned-end Inv-loop μ-loop
 part-tuned-end c = search needs
 
 add-tuned : tie.Need-add-tuned Inv-loop μ-loop
-add-tuned c = omega (arith, c .before .before .before .before .before .before .before .loop .inv, c .before .before .before .before .before .before .loop-test, c .before .before .before .before .before .before .before .before .before .before .before .before .before .before .before .before .pre, c .before .before .before .before .before .before .before .before .before .before .before .before .before .before .before .before .good)
+add-tuned c = omega (arith, c .before .before .before .before .before .before .before .loop .inv, c .before .before .before .before .before .before .loop-test, c .before .before .before .before .before .before .before .before .before .before .before .before .before .pre, c .before .before .before .before .before .before .before .before .before .before .before .before .before .good)
 
 tuned-requires : tie.Need-tuned-requires Inv-loop μ-loop
 tuned-requires c κs = search needs

@@ -15,8 +15,8 @@ silent-requires c κs = search needs
 loop-holds : tie.Need-loop-holds Inv-loop μ-loop
 loop-holds c = search needs
 
-next-line-requires : tie.Need-next-line-requires Inv-loop μ-loop
-next-line-requires c κs = search needs
+next-requires : tie.Need-next-requires Inv-loop μ-loop
+next-requires c κs = search needs
 
 placed-requires : tie.Need-placed-requires Inv-loop μ-loop
 placed-requires c κs = search needs
@@ -41,7 +41,7 @@ signal-spec =
     μ-loop
     silent-requires
     loop-holds
-    next-line-requires
+    next-requires
     placed-requires
     add-i
     loop-less

@@ -1,15 +1,15 @@
--- `replay::total` is safe and ends. Assumes nothing.
+-- `vectors::total` is safe and ends. Assumes nothing.
 use Prim.Native.Nat.{_≤_, _-_}
 use borrow.Author.Needs.{needs}
 use native.Mathlib.Omega.{arith}
-use Rattle.replay.proofs.total.Statement.{statement}
-use Rattle.replay.proofs.total.Tie as tie
+use Rattle.vectors.proofs.total.Statement.{statement}
+use Rattle.vectors.proofs.total.Tie as tie
 
 abbrev Inv-loop : tie.InvT-loop
-Inv-loop counts sum₀ k₀ sum k = k ≤ 14
+Inv-loop counts sum₀ k₀ sum k = k ≤ 16
 
 abbrev μ-loop : tie.MeasureT-loop
-μ-loop counts sum₀ k₀ sum k = 14 - k
+μ-loop counts sum₀ k₀ sum k = 16 - k
 
 loop-holds : tie.Need-loop-holds Inv-loop μ-loop
 loop-holds c = omega arith

@@ -1,9 +1,9 @@
--- `replay::number_at` is safe and ends. Assumes nothing.
+-- `vectors::number_at` is safe and ends. Assumes nothing.
 use Prim.Native.Nat.{_≤_, _-_}
 use borrow.Author.Needs.{needs}
 use native.Mathlib.Omega.{arith}
-use Rattle.replay.proofs.number_at.Statement.{statement}
-use Rattle.replay.proofs.number_at.Tie as tie
+use Rattle.vectors.proofs.number_at.Statement.{statement}
+use Rattle.vectors.proofs.number_at.Tie as tie
 
 abbrev Inv-loop : tie.InvT-loop
 Inv-loop line at v₀ i₀ v i = i ≤ 16
@@ -17,11 +17,11 @@ loop-holds c = omega arith
 mul-v : tie.Need-mul-v Inv-loop μ-loop
 mul-v c = omega arith
 
-add-digit : tie.Need-add-digit Inv-loop μ-loop
-add-digit c = omega arith
+add-byte-at : tie.Need-add-byte-at Inv-loop μ-loop
+add-byte-at c = omega arith
 
-element-copy-out-digit : tie.Need-element-copy-out-digit Inv-loop μ-loop
-element-copy-out-digit c = omega arith
+byte-at-requires : tie.Need-byte-at-requires Inv-loop μ-loop
+byte-at-requires c κs = search needs
 
 digit-requires : tie.Need-digit-requires Inv-loop μ-loop
 digit-requires c κs = search needs
@@ -49,8 +49,8 @@ number-at-spec =
     μ-loop
     loop-holds
     mul-v
-    add-digit
-    element-copy-out-digit
+    add-byte-at
+    byte-at-requires
     digit-requires
     add-v
     add-i
