@@ -8,10 +8,10 @@ use lib.Dec.{T, ltb, ltb→lt, nltb→le}
 use lib.Ieee.{Float, binary32, binary64, ofBits, fits}
 use lib.Ieee.Bits.{ofBits-fits}
 use lib.Ieee.Nearest.{closest}
-use Rattle.casts.specs.Cast.{narrowed, signed, Widens, Narrows}
+use Rattle.casts.specs.Cast.{narrowed, signed, Narrows}
 use Rattle.casts.proofs.Closest.{closest-even}
 use Rattle.casts.proofs.Narrowing.{narrows-mid}
-use Rattle.casts.proofs.Widening.{widens-mid}
+use Rattle.casts.proofs.Widening.{Widens, widens-mid}
 
 -- what the code computes
 abbrev pub rounded : ℕ → ℕ
