@@ -3,7 +3,7 @@ use mathlib.Core.Path.{_≡_, refl, sym, ap, _∙_, subst}
 use Prim.Native.Nat.{ℕ, _+_, _/_, _%_}
 use native.Mathlib.Omega.{arith}
 use mathlib.Core.Bool.{Bool, true, false, cond, _&&_, true≢false}
-use mathlib.Core.List.{List, [], _∷_, _++_}
+use mathlib.Core.List.{List, [], _∷_}
 use lib.Dec.{leb, eqb}
 use lib.ListN.{length, drop}
 use lib.Ieee.{Float}
@@ -11,7 +11,6 @@ use borrow.Author.Tests.{eq-eqb}
 use Rattle.stage.specs.Stage.{ran}
 use Rattle.rate.specs.declared.Rate.{Rate}
 use Rattle.rate.specs.Rate.{RateUsable}
-use Rattle.automation.specs.declared.Tone.the-variants.{Fixed, Graded}
 use Rattle.tape.specs.Tape.{Lists}
 use Rattle.strip.specs.declared.Setup.{Setup}
 use Rattle.strip.specs.declared.Controls.{Controls}
@@ -25,14 +24,13 @@ use Rattle.strip.specs.declared.Rested.{Rested}
 use Rattle.strip.specs.Refusals.{longEnough, runRefusal, latchRefusal, openRefusal}
 use Rattle.master.specs.Kept.{framesOut, countsOut}
 use Rattle.part.specs.Run.{went}
-use Rattle.strip.specs.Machine.{fresh}
 use Rattle.strip.specs.Calls.{State, state, stepOn, ranOn, heardOn, first, restingOn, OpenDone, RunDone, openedStrip, openedState, openCall, runCall, latchedStrip, latchCall, restCall}
-use Rattle.strip.specs.Promise.{Call, run, move, ask, Answer, stripOf, runAnswer, moveAnswer, restAnswer, answerTo, after, through, expected, Joined}
+use Rattle.strip.specs.Promise.{Call, run, move, ask, Answer, stripOf, runAnswer, moveAnswer, restAnswer, answerTo, after, through, Joined}
 use Rattle.strip.proofs.Joined.{joined}
 use Rattle.packing.specs.declared.Unpacked as unpack
-use Rattle.packing.specs.Packing.{flagged, flagOf, packedNumbers, packedWords, unpacked}
+use Rattle.packing.specs.Packing.{flagged, packedNumbers, packedWords, unpacked}
 use Rattle.packing.specs.Inverse.{Single, ToneSingle, PadSingle, Singles}
-use Rattle.packing.proofs.Inverse.{inverse}
+use Rattle.packing.proofs.Inverse.{inverse, flag-is}
 use Rattle.exports_setup.specs.Setup.{numberAt, toneOf, padOf, tapeSetupOf}
 use Rattle.goqhari.specs.Library.{Back, back, packedBack, openedBack, outcomeBack, declinedBy, setupOf, Opening, opening, openDone, libraryOpen, drumming, running, runDone, runFrom, libraryRun, latchFrom, libraryLatch, restedBack, restFrom, libraryRest}
 use Rattle.goqhari.specs.Promise.{Lent, lent, runSays, latchSays, restSays, answerOf, runLeaves, leftBy, answersOf, openLeaves, LibraryJoined}
@@ -130,14 +128,9 @@ rest-refuses : (r : Rate) (st : State) → Refuses (restCall r st)
 unfolding restCall
 rest-refuses r st = let k = first r st 0 in rest-either (eqb k 0) (rested.the-variants.Rests (restingOn r st)) (rested.the-variants.Declined k) tt (λ e. e)
 
-flag-told : (b : Bool) → flagOf (flagged b) ≡ b
-unfolding flagOf flagged
-flag-told true = refl
-flag-told false = refl
-
 rest-said : (a : Rested) → Refuses a → restSays (restedBack a (0 ∷ [])) ≡ restAnswer a
 unfolding restSays restedBack
-rest-said (rested.the-variants.Rests b) k = rw (flag-told b)
+rest-said (rested.the-variants.Rests b) k = rw (flag-is b)
 rest-said (rested.the-variants.Declined n) k = rw k
 
 drums-told : (d : Bool) → drumming (flagged d) ≡ d

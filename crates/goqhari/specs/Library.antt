@@ -4,8 +4,8 @@ use Prim.Native.Nat.{ℕ}
 use mathlib.Core.Bool.{Bool, true, false, cond, _&&_}
 use mathlib.Core.List.{List}
 use lib.Dec.{leb, eqb}
-use lib.ListN.{length, getD, set}
-use lib.Ieee.{Float, nan}
+use lib.ListN.{length, set}
+use lib.Ieee.{Float}
 use Rattle.rate.specs.declared.Rate.{Rate}
 use Rattle.tape.specs.Tape.{Lists}
 use Rattle.strip.specs.declared.Setup.{Setup}

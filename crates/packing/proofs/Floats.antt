@@ -1,6 +1,6 @@
 -- An f32 among the numbers, and a number that is left out. Assumes nothing.
 use mathlib.Core.Path.{_≡_, refl, sym, ap, _∙_}
-use mathlib.Core.Bool.{Bool, true}
+use mathlib.Core.Bool.{true}
 use lib.Dec.{T, eqb→eq}
 use lib.Ieee.{Float, nan, inf, fin, binary32, binary64, fits, round, up, down, toBits, ofBits}
 use lib.Ieee.Fits.{round-fits, nan-fits, inf-fits, fits-widens}

@@ -1,15 +1,14 @@
 -- Packing and unpacking are inverse. Assumes nothing.
-use mathlib.Core.Path.{_≡_, refl, sym, ap, _∙_, subst}
+use mathlib.Core.Path.{_≡_, refl, ap, _∙_, subst}
 use Prim.Native.Nat.{ℕ, zero, suc, _+_, _≤_}
 use native.Mathlib.Omega.{arith}
 use mathlib.Core.Bool.{Bool, true, false, cond, _&&_}
 use mathlib.Core.List.{List, [], _∷_, _++_}
 use lib.Dec.{T, leb, eqb, leb→le, eqb·suc-zero, eqb·suc-suc}
 use lib.ListN.{length, take, getD, length-append}
-use lib.Ieee.{Float, nan, binary32, binary64, fits}
+use lib.Ieee.{Float, nan, binary64, fits}
 use lib.Ieee.Fits.{and-l, and-r}
 use borrow.Author.Tests.{le-leb}
-use Rattle.casts.specs.Arithmetic.{nought}
 use Rattle.casts.specs.Cast.{narrowed}
 use Rattle.ramp.specs.declared.Shape.{Shape}
 use Rattle.ramp.specs.declared.Shape.the-variants.{Linear, Db}
@@ -19,15 +18,15 @@ use Rattle.tape.specs.declared.Pad.{Pad}
 use Rattle.tape.specs.declared.Pad.the-variants.{Without, Swell}
 use Rattle.strip.specs.declared.Strip.{Strip}
 use Rattle.packing.specs.declared.Unpacked as unpack
-use Rattle.packing.specs.Packing.{toneNumbers, toneTag, padNumbers, padTag, shapeTag, flagged, packedNumbers, packedWords, numberAt, wordAt, isShort, isNought, fixedFits, gradedFits, toneFits, withoutFits, swellFits, padFits, shortsFit, wordsFit, unpackable, toneAt, padAt, shapeOf, flagOf, sectionFrom, lowpassFrom, onePoleFrom, rampFrom, setupFrom, tapeFrom, plateFrom, ceilingFrom, stripFrom, unpacked}
-use Rattle.packing.specs.Inverse.{ToneSingle, PadSingle, Single, Singles, Inverse}
+use Rattle.packing.specs.Packing.{toneNumbers, toneTag, padNumbers, padTag, shapeTag, flagged, packedNumbers, packedWords, numberAt, wordAt, isShort, isNought, bothShort, bothNought, toneFits, padFits, shortsFit, wordsFit, unpackable, toneAt, padAt, shapeOf, flagOf, sectionFrom, lowpassFrom, onePoleFrom, rampFrom, setupFrom, tapeFrom, plateFrom, ceilingFrom, stripFrom, unpacked}
+use Rattle.packing.specs.Inverse.{ToneSingle, PadSingle, Singles, Inverse}
 use Rattle.packing.proofs.Floats.{narrowed-own, short-is, nought-is, short-back, nought-back}
 use Rattle.packing.proofs.Spread.{front, behind, numbers-front, numbers-length, words-length, elements, elements-are}
-use Rattle.packing.proofs.Read.{Reads, Read, read}
+use Rattle.packing.proofs.Read.{Reads, read}
 
 -- ---- bools and shapes
 
-flag-is : (b : Bool) → flagOf (flagged b) ≡ b
+pub flag-is : (b : Bool) → flagOf (flagged b) ≡ b
 unfolding flagOf flagged
 flag-is true = refl
 flag-is false = refl
@@ -65,12 +64,12 @@ corner-fits (Fixed a b) x = short-is a x
 corner-fits (Graded a b c d) x = short-is a (x .0)
 
 tone-fits : (t : Tone) (p : Pad) (l : List Float) → ToneSingle t → toneFits (front t p l) (toneTag t) ≡ true
-unfolding toneNumbers toneTag toneFits fixedFits gradedFits
+unfolding toneNumbers toneTag toneFits bothNought bothShort
 tone-fits (Fixed a b) p l x = rw (nought-is)
 tone-fits (Graded a b c d) p l x = rw (short-is b (x .1), short-is c (x .2), short-is d (x .3))
 
 pad-fits : (t : Tone) (p : Pad) (l : List Float) → PadSingle p → padFits (front t p l) (padTag p) ≡ true
-unfolding padNumbers padTag padFits withoutFits swellFits
+unfolding padNumbers padTag padFits bothNought bothShort
 pad-fits t Without l y = rw (nought-is)
 pad-fits t (Swell h k) l y = rw (short-is h (y .0), short-is k (y .1))
 
@@ -91,7 +90,7 @@ module _ (s : Strip) (h : Singles s) (ns : List Float) (ws : List ℕ) where
       (rw (flag-is (s .setup .tape .darkened)) (rw (flag-is (s .setup .tape .ducked)) (rw (shape-is (s .daylight .shape)) (rw (shape-is (s .rain .shape)))))))))
 
   shorts-fit : shortsFit (front t p (behind s ++ ns)) ≡ true
-  unfolding shortsFit
+  unfolding shortsFit bothShort
   shorts-fit = rw (corner-fits t (h .tone), short-is (s .setup .daylight) (h .daylight), short-is (s .setup .rain) (h .rain))
 
   words-fit : wordsFit (packedWords s ++ ws) ≡ true
@@ -138,7 +137,7 @@ shape-back (suc (suc n)) t = absurd (big n (leb→le (suc (suc n)) 1 t))
 module _ (ns : List Float) (f : (k : ℕ) → T (fits binary64 (numberAt ns k))) where
   tone-back : (tag : ℕ) → T (isShort (numberAt ns 0)) → T (toneFits ns tag)
       → (toneNumbers (toneAt ns tag) ≡ numberAt ns 0 ∷ numberAt ns 1 ∷ numberAt ns 2 ∷ numberAt ns 3 ∷ []) × (toneTag (toneAt ns tag) ≡ tag)
-  unfolding toneFits fixedFits gradedFits toneAt toneNumbers toneTag
+  unfolding toneFits bothNought bothShort toneAt toneNumbers toneTag
   tone-back zero x t =
       let a = short-back (numberAt ns 0) (f 0) x in
       let b = nought-back (numberAt ns 2) (f 2) (and-l (isNought (numberAt ns 2)) (isNought (numberAt ns 3)) t) in
@@ -154,7 +153,7 @@ module _ (ns : List Float) (f : (k : ℕ) → T (fits binary64 (numberAt ns k)))
   tone-back (suc (suc n)) x t = absurd (no-tag n _ _ t)
 
   pad-back : (tag : ℕ) → T (padFits ns tag) → (padNumbers (padAt ns tag) ≡ numberAt ns 4 ∷ numberAt ns 5 ∷ []) × (padTag (padAt ns tag) ≡ tag)
-  unfolding padFits withoutFits swellFits padAt padNumbers padTag
+  unfolding padFits bothNought bothShort padAt padNumbers padTag
   pad-back zero t =
       let a = nought-back (numberAt ns 4) (f 4) (and-l (isNought (numberAt ns 4)) (isNought (numberAt ns 5)) t) in
       let b = nought-back (numberAt ns 5) (f 5) (and-r (isNought (numberAt ns 4)) (isNought (numberAt ns 5)) t) in
@@ -166,7 +165,7 @@ module _ (ns : List Float) (f : (k : ℕ) → T (fits binary64 (numberAt ns k)))
   pad-back (suc (suc n)) t = absurd (no-tag n _ _ t)
 
   shorts-back : T (shortsFit ns) → T (isShort (numberAt ns 0)) × (narrowed (numberAt ns 8) ≡ numberAt ns 8) × (narrowed (numberAt ns 9) ≡ numberAt ns 9)
-  unfolding shortsFit
+  unfolding shortsFit bothShort
   shorts-back t =
       let t2 = and-r (isShort (numberAt ns 0)) (isShort (numberAt ns 8) && isShort (numberAt ns 9)) t in (
         and-l (isShort (numberAt ns 0)) (isShort (numberAt ns 8) && isShort (numberAt ns 9)) t,

@@ -16,13 +16,9 @@ use Rattle.ramp.specs.declared.Shape.the-variants.{Linear, Db}
 use Rattle.ramp.specs.declared.Ramp.{Ramp}
 use Rattle.automation.specs.declared.Tone.{Tone}
 use Rattle.automation.specs.declared.Tone.the-variants.{Fixed, Graded}
-use Rattle.duck.specs.declared.Duck.{Duck}
 use Rattle.tape.specs.declared.Pad.{Pad}
 use Rattle.tape.specs.declared.Pad.the-variants.{Without, Swell}
-use Rattle.tape.specs.declared.TapeSetup.{TapeSetup}
-use Rattle.tape.specs.declared.Equalizer.{Equalizer}
 use Rattle.tape.specs.declared.Tape.{Tape}
-use Rattle.plate.specs.declared.Tank.{Tank}
 use Rattle.plate.specs.declared.Plate.{Plate}
 use Rattle.master.specs.declared.Ceiling.{Ceiling}
 use Rattle.strip.specs.declared.Setup.{Setup}
@@ -113,28 +109,23 @@ isShort x = eqb (toBits binary64 (narrowed x)) (toBits binary64 x)
 unfoldable pub isNought : Float → Bool
 isNought x = eqb (toBits binary64 x) 0
 
--- what a fixed tone leaves out, and what a graded one has after its first corner
-unfoldable pub fixedFits : List Float → Bool
-fixedFits ns = isNought (numberAt ns 2) && isNought (numberAt ns 3)
+-- two neighbours
+unfoldable pub bothShort : List Float → ℕ → Bool
+bothShort ns k = isShort (numberAt ns k) && isShort (numberAt ns (k + 1))
 
-unfoldable pub gradedFits : List Float → Bool
-gradedFits ns = isShort (numberAt ns 1) && (isShort (numberAt ns 2) && isShort (numberAt ns 3))
+unfoldable pub bothNought : List Float → ℕ → Bool
+bothNought ns k = isNought (numberAt ns k) && isNought (numberAt ns (k + 1))
 
+-- a fixed tone leaves out two numbers; a graded one has three f32 after its first corner
 unfoldable pub toneFits : List Float → ℕ → Bool
-toneFits ns tag = cond (eqb tag 0) (fixedFits ns) (eqb tag 1 && gradedFits ns)
-
-unfoldable pub withoutFits : List Float → Bool
-withoutFits ns = isNought (numberAt ns 4) && isNought (numberAt ns 5)
-
-unfoldable pub swellFits : List Float → Bool
-swellFits ns = isShort (numberAt ns 4) && isShort (numberAt ns 5)
+toneFits ns tag = cond (eqb tag 0) (bothNought ns 2) (eqb tag 1 && (isShort (numberAt ns 1) && bothShort ns 2))
 
 unfoldable pub padFits : List Float → ℕ → Bool
-padFits ns tag = cond (eqb tag 0) (withoutFits ns) (eqb tag 1 && swellFits ns)
+padFits ns tag = cond (eqb tag 0) (bothNought ns 4) (eqb tag 1 && bothShort ns 4)
 
 -- the f32 that every strip has: a corner, daylight and rain
 unfoldable pub shortsFit : List Float → Bool
-shortsFit ns = isShort (numberAt ns 0) && (isShort (numberAt ns 8) && isShort (numberAt ns 9))
+shortsFit ns = isShort (numberAt ns 0) && bothShort ns 8
 
 -- the two bools and the two shapes
 unfoldable pub wordsFit : List ℕ → Bool

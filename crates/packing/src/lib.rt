@@ -2,8 +2,8 @@
 // packing and unpacking are inverse (proofs/Inverse.antt). Uses casts, and the crates of the stages and strip for their types.
 ghost use mathlib.Core.Path.{_≡_};
 ghost use Prim.Native.Nat.{_+_, _≤_};
-ghost use lib.ListN.{length, getD};
-ghost use Rattle.packing.specs.Packing.{toneNumbers, toneTag, padNumbers, padTag, shapeTag, flagged, packedNumbers, packedWords, isShort, isNought, fixedFits, gradedFits, toneFits, withoutFits, swellFits, padFits, shortsFit, wordsFit, unpackable, toneAt, padAt, shapeOf, flagOf, sectionFrom, lowpassFrom, onePoleFrom, rampFrom, setupFrom, tapeFrom, plateFrom, ceilingFrom, stripFrom, unpacked};
+ghost use lib.ListN.{length};
+ghost use Rattle.packing.specs.Packing.{toneNumbers, toneTag, padNumbers, padTag, shapeTag, flagged, packedNumbers, packedWords, isShort, isNought, bothShort, bothNought, toneFits, padFits, shortsFit, wordsFit, unpackable, toneAt, padAt, shapeOf, flagOf, sectionFrom, lowpassFrom, onePoleFrom, rampFrom, setupFrom, tapeFrom, plateFrom, ceilingFrom, stripFrom, unpacked};
 use automation::Tone;
 use biquad::Lowpass;
 use biquad::Section;
@@ -261,27 +261,24 @@ fn is_nought(x: f64) -> bool
     casts::bits_of_f64(x) == 0
 }
 
-fn fixed_fits(numbers: &[f64]) -> bool
-    requires { ⌜ 85 ≤ length (now numbers) ⌝ }
-    ensures { λ r. ⌜ r ≡ fixedFits (now (numbers .entry)) ⌝ }
+fn both_short(numbers: &[f64], k: usize) -> bool
+    requires { ⌜ k + 2 ≤ length (now numbers) ⌝ }
+    ensures { λ r. ⌜ r ≡ bothShort (now (numbers .entry)) k ⌝ }
 {
-    if !is_nought(numbers[2]) {
+    if !is_short(numbers[k]) {
         return false;
     }
-    is_nought(numbers[3])
+    is_short(numbers[k + 1])
 }
 
-fn graded_fits(numbers: &[f64]) -> bool
-    requires { ⌜ 85 ≤ length (now numbers) ⌝ }
-    ensures { λ r. ⌜ r ≡ gradedFits (now (numbers .entry)) ⌝ }
+fn both_nought(numbers: &[f64], k: usize) -> bool
+    requires { ⌜ k + 2 ≤ length (now numbers) ⌝ }
+    ensures { λ r. ⌜ r ≡ bothNought (now (numbers .entry)) k ⌝ }
 {
-    if !is_short(numbers[1]) {
+    if !is_nought(numbers[k]) {
         return false;
     }
-    if !is_short(numbers[2]) {
-        return false;
-    }
-    is_short(numbers[3])
+    is_nought(numbers[k + 1])
 }
 
 fn tone_fits(numbers: &[f64], tag: u64) -> bool
@@ -289,32 +286,15 @@ fn tone_fits(numbers: &[f64], tag: u64) -> bool
     ensures { λ r. ⌜ r ≡ toneFits (now (numbers .entry)) tag ⌝ }
 {
     if tag == 0 {
-        return fixed_fits(numbers);
+        return both_nought(numbers, 2);
     }
-    if tag == 1 {
-        return graded_fits(numbers);
-    }
-    false
-}
-
-fn without_fits(numbers: &[f64]) -> bool
-    requires { ⌜ 85 ≤ length (now numbers) ⌝ }
-    ensures { λ r. ⌜ r ≡ withoutFits (now (numbers .entry)) ⌝ }
-{
-    if !is_nought(numbers[4]) {
+    if tag != 1 {
         return false;
     }
-    is_nought(numbers[5])
-}
-
-fn swell_fits(numbers: &[f64]) -> bool
-    requires { ⌜ 85 ≤ length (now numbers) ⌝ }
-    ensures { λ r. ⌜ r ≡ swellFits (now (numbers .entry)) ⌝ }
-{
-    if !is_short(numbers[4]) {
+    if !is_short(numbers[1]) {
         return false;
     }
-    is_short(numbers[5])
+    both_short(numbers, 2)
 }
 
 fn pad_fits(numbers: &[f64], tag: u64) -> bool
@@ -322,10 +302,10 @@ fn pad_fits(numbers: &[f64], tag: u64) -> bool
     ensures { λ r. ⌜ r ≡ padFits (now (numbers .entry)) tag ⌝ }
 {
     if tag == 0 {
-        return without_fits(numbers);
+        return both_nought(numbers, 4);
     }
     if tag == 1 {
-        return swell_fits(numbers);
+        return both_short(numbers, 4);
     }
     false
 }
@@ -337,10 +317,7 @@ fn shorts_fit(numbers: &[f64]) -> bool
     if !is_short(numbers[0]) {
         return false;
     }
-    if !is_short(numbers[8]) {
-        return false;
-    }
-    is_short(numbers[9])
+    both_short(numbers, 8)
 }
 
 fn words_fit(words: &[u64]) -> bool

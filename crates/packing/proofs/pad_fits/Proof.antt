@@ -4,19 +4,19 @@ use borrow.Author.Needs.{needs}
 use Rattle.packing.proofs.pad_fits.Statement.{statement}
 use Rattle.packing.proofs.pad_fits.Tie as tie
 
-without-fits-requires : tie.Need-without-fits-requires
-without-fits-requires c κs = search needs
+both-nought-requires : tie.Need-both-nought-requires
+both-nought-requires c κs = search needs
 
 returns : tie.Need-returns
 unfolding padFits
-returns c = rw (eq-eqb _ _ (c .before .if1 .taken)) (c .without-fits .ensures)
+returns c = rw (eq-eqb _ _ (c .before .if1 .taken)) (c .both-nought .ensures)
 
-swell-fits-requires : tie.Need-swell-fits-requires
-swell-fits-requires c κs = search needs
+both-short-requires : tie.Need-both-short-requires
+both-short-requires c κs = search needs
 
 returns-2 : tie.Need-returns-2
 unfolding padFits
-returns-2 c = rw (ne-eqb _ _ (c .before .before .if1 .left), eq-eqb _ _ (c .before .if2 .taken)) (c .swell-fits .ensures)
+returns-2 c = rw (ne-eqb _ _ (c .before .before .if1 .left), eq-eqb _ _ (c .before .if2 .taken)) (c .both-short .ensures)
 
 returns-3 : tie.Need-returns-3
 unfolding padFits
@@ -24,4 +24,4 @@ returns-3 c = rw (ne-eqb _ _ (c .before .if1 .left), ne-eqb _ _ (c .if2 .left))
 
 pub pad-fits-spec : {M : Type 1} → statement M
 pad-fits-spec =
-    tie.close (tie.spec without-fits-requires returns swell-fits-requires returns-2 returns-3)
+    tie.close (tie.spec both-nought-requires returns both-short-requires returns-2 returns-3)

@@ -1,5 +1,5 @@
 use Rattle.packing.specs.Packing.{padNumbers}
-use mathlib.Core.Path.{sym, ap, _∙_}
+use mathlib.Core.Path.{sym, ap}
 use borrow.Author.Needs.{needs}
 use Rattle.packing.proofs.pad_numbers.Statement.{statement}
 use Rattle.packing.proofs.pad_numbers.Tie as tie

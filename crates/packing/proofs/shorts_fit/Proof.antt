@@ -14,36 +14,14 @@ returns : tie.Need-returns
 unfolding shortsFit
 returns c = rw (fails (c .before .is-short .ensures) (c .if1 .taken))
 
-shared-slice-read-is-short-2 : tie.Need-shared-slice-read-is-short-2
-shared-slice-read-is-short-2 c = search needs
-
-is-short-requires-2 : tie.Need-is-short-requires-2
-is-short-requires-2 c κs = search needs
+both-short-requires : tie.Need-both-short-requires
+both-short-requires c κs = search needs
 
 returns-2 : tie.Need-returns-2
 unfolding shortsFit
-returns-2 c = rw (passes (c .before .before .before .before .is-short .ensures) (c .before .before .before .if1 .left), fails (c .before .is-short2 .ensures) (c .if2 .taken))
-
-shared-slice-read-is-short-3 : tie.Need-shared-slice-read-is-short-3
-shared-slice-read-is-short-3 c = search needs
-
-is-short-requires-3 : tie.Need-is-short-requires-3
-is-short-requires-3 c κs = search needs
-
-returns-3 : tie.Need-returns-3
-unfolding shortsFit
-returns-3 c = rw (passes (c .before .before .before .before .before .before .is-short .ensures) (c .before .before .before .before .before .if1 .left), passes (c .before .before .before .is-short2 .ensures) (c .before .before .if2 .left)) (c .is-short3 .ensures)
+returns-2 c = rw (passes (c .before .before .is-short .ensures) (c .before .if1 .left)) (c .both-short .ensures)
 
 pub shorts-fit-spec : {M : Type 1} → statement M
 shorts-fit-spec =
     tie.close
-    (tie.spec
-    shared-slice-read-is-short
-    is-short-requires
-    returns
-    shared-slice-read-is-short-2
-    is-short-requires-2
-    returns-2
-    shared-slice-read-is-short-3
-    is-short-requires-3
-    returns-3)
+    (tie.spec shared-slice-read-is-short is-short-requires returns both-short-requires returns-2)

@@ -1,27 +1,47 @@
 use Rattle.packing.specs.Packing.{toneFits}
 use borrow.Author.Tests.{eq-eqb, ne-eqb}
+use Rattle.refusals.proofs.Checks.{passes, fails}
 use borrow.Author.Needs.{needs}
 use Rattle.packing.proofs.tone_fits.Statement.{statement}
 use Rattle.packing.proofs.tone_fits.Tie as tie
 
-fixed-fits-requires : tie.Need-fixed-fits-requires
-fixed-fits-requires c κs = search needs
+both-nought-requires : tie.Need-both-nought-requires
+both-nought-requires c κs = search needs
 
 returns : tie.Need-returns
 unfolding toneFits
-returns c = rw (eq-eqb _ _ (c .before .if1 .taken)) (c .fixed-fits .ensures)
-
-graded-fits-requires : tie.Need-graded-fits-requires
-graded-fits-requires c κs = search needs
+returns c = rw (eq-eqb _ _ (c .before .if1 .taken)) (c .both-nought .ensures)
 
 returns-2 : tie.Need-returns-2
 unfolding toneFits
-returns-2 c = rw (ne-eqb _ _ (c .before .before .if1 .left), eq-eqb _ _ (c .before .if2 .taken)) (c .graded-fits .ensures)
+returns-2 c = rw (ne-eqb _ _ (c .before .if1 .left), ne-eqb _ _ (c .if2 .taken))
+
+shared-slice-read-is-short : tie.Need-shared-slice-read-is-short
+shared-slice-read-is-short c = search needs
+
+is-short-requires : tie.Need-is-short-requires
+is-short-requires c κs = search needs
 
 returns-3 : tie.Need-returns-3
 unfolding toneFits
-returns-3 c = rw (ne-eqb _ _ (c .before .if1 .left), ne-eqb _ _ (c .if2 .left))
+returns-3 c = rw (ne-eqb _ _ (c .before .before .before .before .if1 .left), eq-eqb _ _ (c .before .before .before .if2 .left), fails (c .before .is-short .ensures) (c .if3 .taken))
+
+both-short-requires : tie.Need-both-short-requires
+both-short-requires c κs = search needs
+
+returns-4 : tie.Need-returns-4
+unfolding toneFits
+returns-4 c = rw (ne-eqb _ _ (c .before .before .before .before .before .if1 .left), eq-eqb _ _ (c .before .before .before .before .if2 .left), passes (c .before .before .is-short .ensures) (c .before .if3 .left)) (c .both-short .ensures)
 
 pub tone-fits-spec : {M : Type 1} → statement M
 tone-fits-spec =
-    tie.close (tie.spec fixed-fits-requires returns graded-fits-requires returns-2 returns-3)
+    tie.close
+    (tie.spec
+    both-nought-requires
+    returns
+    returns-2
+    shared-slice-read-is-short
+    is-short-requires
+    returns-3
+    both-short-requires
+    returns-4)

@@ -1,5 +1,4 @@
 use Rattle.packing.specs.Packing.{toneTag}
-use mathlib.Core.Path.{sym, ap, _∙_}
 use borrow.Author.Needs.{needs}
 use Rattle.packing.proofs.tone_tag.Statement.{statement}
 use Rattle.packing.proofs.tone_tag.Tie as tie
