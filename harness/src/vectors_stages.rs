@@ -4,6 +4,7 @@
 #![allow(dead_code)]
 
 mod compare;
+mod library;
 mod part;
 mod report;
 mod rng;
