@@ -189,7 +189,7 @@ fn scaled(k: f64, x: Eight) -> [f64; 8]
     ]
 }
 
-// The stretches of the count frames from n on. SIN and COS of eight angles at once cost as much as of three one by one.
+// The stretches of the count frames from n on, by eight angles at once. A frame alone is cheaper by the plain functions.
 fn lfo(rate: PlateRate, n: u64, count: usize) -> Stretches
     requires { ⌜ (n ≤ 4294967296) × (count ≤ 8) ⌝ }
     ensures { λ r. ⌜ Stretched rate n count (r .left) (r .right) ⌝ }
