@@ -336,7 +336,7 @@ pub extern "C" fn goqhari_test_tape(
     }
     silence(ring);
     let duck = Duck::new(kicks, counts);
-    let setup = exports_setup::setup_of(f32s, f64s, flags);
+    let setup = setup::setup_of(f32s, f64s, flags);
     let lane = fresh_lane(f32s, duck.count);
     let after = all_called(setup, points, values, lane, ring, counts, samples, calls);
     tape::at_rest(after.tape, ring)

@@ -31,7 +31,7 @@ use Rattle.packing.specs.declared.Unpacked as unpack
 use Rattle.packing.specs.Packing.{flagged, packedNumbers, packedWords, unpacked}
 use Rattle.packing.specs.Inverse.{Single, ToneSingle, PadSingle, Singles}
 use Rattle.packing.proofs.Inverse.{inverse, flag-is}
-use Rattle.exports_setup.specs.Setup.{numberAt, toneOf, padOf, tapeSetupOf}
+use Rattle.setup.specs.Setup.{numberAt, toneOf, padOf, tapeSetupOf}
 use Rattle.goqhari.specs.Library.{Back, back, packedBack, openedBack, outcomeBack, declinedBy, setupOf, Opening, opening, openDone, libraryOpen, drumming, running, runDone, runFrom, libraryRun, latchFrom, libraryLatch, restedBack, restFrom, libraryRest}
 use Rattle.goqhari.specs.Promise.{Lent, lent, runSays, latchSays, restSays, answerOf, runLeaves, leftBy, answersOf, openLeaves, LibraryJoined}
 

@@ -23,7 +23,7 @@ use Rattle.part.specs.Pieces.{over}
 use Rattle.packing.specs.declared.Unpacked as unpack
 use Rattle.packing.specs.declared.Unpacked.{Unpacked}
 use Rattle.packing.specs.Packing.{flagged, packedNumbers, packedWords, unpacked}
-use Rattle.exports_setup.specs.Setup.{numberAt, tapeSetupOf}
+use Rattle.setup.specs.Setup.{numberAt, tapeSetupOf}
 
 -- an answer, with the packed strip as the call leaves it
 pub record Back : Type 0 where

@@ -12,7 +12,7 @@ use Rattle.strip.specs.Machine.{fresh}
 use Rattle.strip.specs.Promise.{Call, run, move, ask, Answer, ran, moved, rests, declined, expected}
 use Rattle.packing.specs.Packing.{flagged, flagOf}
 use Rattle.packing.specs.Inverse.{Single}
-use Rattle.exports_setup.specs.Setup.{numberAt}
+use Rattle.setup.specs.Setup.{numberAt}
 use Rattle.goqhari.specs.Library.{Back, Opening, Running, Resting, setupOf, libraryOpen, libraryRun, libraryLatch, libraryRest}
 
 -- the memory of a strip

@@ -1,6 +1,6 @@
 // The four calls for C (include/goqhari.h): `rt staticlib goqhari` builds the library from them. The strip stands packed in two lists that the caller lends.
 // No call has a `requires`, and each contract is the Rattle call's through the packing (specs/Library.antt).
-// Uses part for the calls, packing for the strip, refusals for 1, exports_setup for the setup.
+// Uses part for the calls, packing for the strip, refusals for 1, setup for the setup.
 ghost use mathlib.Core.Path.{_≡_};
 ghost use Prim.Native.Nat.{_≤_};
 ghost use lib.ListN.{length};
@@ -77,7 +77,7 @@ fn told(answer: Rested, rests: &mut [u64; 1]) -> u64
 fn setup_of(singles: &[f32; 8], doubles: &[f64; 4], flags: u64) -> Setup
     ensures { λ r. ⌜ r ≡ setupOf (now (singles .entry)) (now (doubles .entry)) flags ⌝ }
 {
-    let tape = exports_setup::setup_of(singles, doubles, flags);
+    let tape = setup::setup_of(singles, doubles, flags);
     Setup {
         tape,
         daylight: singles[6],

@@ -1,6 +1,6 @@
-use Rattle.exports_setup.specs.Setup.{padOf}
-use Rattle.exports_setup.proofs.pad_of.Statement.{statement}
-use Rattle.exports_setup.proofs.pad_of.Tie as tie
+use Rattle.setup.specs.Setup.{padOf}
+use Rattle.setup.proofs.pad_of.Statement.{statement}
+use Rattle.setup.proofs.pad_of.Tie as tie
 
 returns : tie.Need-returns
 unfolding padOf

@@ -1,7 +1,7 @@
-use Rattle.exports_setup.specs.Setup.{tapeSetupOf}
+use Rattle.setup.specs.Setup.{tapeSetupOf}
 use borrow.Author.Needs.{needs}
-use Rattle.exports_setup.proofs.setup_of.Statement.{statement}
-use Rattle.exports_setup.proofs.setup_of.Tie as tie
+use Rattle.setup.proofs.setup_of.Statement.{statement}
+use Rattle.setup.proofs.setup_of.Tie as tie
 
 element-copy-out-tone-of : tie.Need-element-copy-out-tone-of
 element-copy-out-tone-of c = search needs

@@ -1,7 +1,7 @@
-use Rattle.exports_setup.specs.Setup.{toneOf}
+use Rattle.setup.specs.Setup.{toneOf}
 use borrow.Author.Needs.{needs}
-use Rattle.exports_setup.proofs.tone_of.Statement.{statement}
-use Rattle.exports_setup.proofs.tone_of.Tie as tie
+use Rattle.setup.proofs.tone_of.Statement.{statement}
+use Rattle.setup.proofs.tone_of.Tie as tie
 
 element-copy-out-t7 : tie.Need-element-copy-out-t7
 element-copy-out-t7 c = search needs

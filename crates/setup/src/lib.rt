@@ -1,6 +1,6 @@
 // A lane's setup out of the numbers and flags that C hands over (specs/Setup.antt). Uses automation and tape for their types.
 ghost use mathlib.Core.Path.{_≡_};
-ghost use Rattle.exports_setup.specs.Setup.{toneOf, padOf, tapeSetupOf};
+ghost use Rattle.setup.specs.Setup.{toneOf, padOf, tapeSetupOf};
 use automation::Tone;
 use tape::Pad;
 use tape::TapeSetup;
