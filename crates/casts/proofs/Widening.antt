@@ -1,22 +1,18 @@
--- A normal f32's pattern, turned into the f64's of the same value. Assumes nothing.
-use mathlib.Core.Path.{_≡_, sym, ap, _∙_}
-use mathlib.Core.Logic.{_⊎_, inr}
+-- An f32's pattern, turned into the f64's of the same value. Assumes nothing.
+use mathlib.Core.Path.{_≡_, refl, sym, ap, _∙_, subst}
+use mathlib.Core.Logic.{_⊎_, inl, inr}
 use Prim.Native.Nat.{ℕ, suc, _+_, _-_, _*_, _/_, _%_, _^_, _≤_, _<_}
-use native.Mathlib.Nat.{mul-assoc}
+use native.Mathlib.Nat.{le-trans, le-of-eq, le-of-lt, mul-assoc, mul-le-mul-right, mod-eq-of-lt}
 use native.Mathlib.Omega.{arith}
 use mathlib.Core.Bool.{Bool}
-use lib.Pow.{pow-add, pow-pos}
+use lib.Pow.{pow-add, pow-pos, shl-lt}
+use lib.Count.{leadingZeros, leading-top}
 use lib.Ieee.{binary32, binary64, ofBits}
 use lib.Ieee.Fits.{fits-widens}
 use lib.Ieee.Bits.{ofBits-fits}
 use lib.Ieee.Exact.{HasValue}
-use Rattle.casts.specs.Cast.{signed}
-use Rattle.casts.proofs.Pattern.{reads-mid, at-unit, writes}
-
--- with either sign, the f64 pattern r is read as the value that the f32 pattern m is read as
-pub record Widens (m r : ℕ) : Type 0 where
-  pub small : r ≤ 9218868437227405312
-  pub same : (s : Bool) → ofBits binary64 (signed binary64 s r) ≡ ofBits binary32 (signed binary32 s m)
+use Rattle.casts.specs.Cast.{signed, Widens}
+use Rattle.casts.proofs.Pattern.{reads-low, reads-mid, reads-inf, at-unit, writes}
 
 -- D * 2 ^ E units of 2 ^ -149 are q * 2 ^ j units of 2 ^ -1074
 module _ (s : Bool) (m D E q j : ℕ) where
@@ -33,6 +29,11 @@ shift D i j k = ap (λ (x : ℕ). x * 2 ^ k) (mul-assoc D (2 ^ i) (2 ^ j)) ∙ m
 shift-two : (D i j : ℕ) → D * 2 ^ i * 2 ^ j ≡ D * 2 ^ (i + j)
 shift-two D i j = mul-assoc D (2 ^ i) (2 ^ j) ∙ ap (λ (x : ℕ). D * x) (sym (pow-add 2 i j))
 
+-- ---- the infinity
+pub widens-inf : Widens 2139095040 9218868437227405312
+widens-inf = record { small = omega arith; same = λ s. reads-inf binary64 s ∙ sym (reads-inf binary32 s) }
+
+-- ---- a normal value
 pub widens-mid : (m : ℕ) → 8388608 ≤ m → m < 2139095040 → Widens m ((m / 8388608 + 895) * 4503599627370496 + (m % 8388608 + 8388608) * 536870912)
 widens-mid m lo hi =
     let x = m / 8388608 - 1 in
@@ -68,3 +69,71 @@ widens-mid m lo hi =
 
     lead : (m : ℕ) → 4503599627370496 ≤ (8388608 + m % 8388608) * 536870912
     lead m = omega arith
+
+-- ---- a value below the normal ones, 0 first
+pub widens-zero : Widens 0 0
+widens-zero = record { small = omega arith; same = λ s. carried s 0 0 0 0 0 (reads-low binary32 s 0 (omega arith) refl) refl (omega arith) (inl refl) }
+
+-- the digits shifted up have their leading one at the place 52
+pub low-shift : (m : ℕ) → 0 < m → m < 8388608 → m * 2 ^ (leadingZeros 32 m + 21) < 2 ^ 53
+low-shift m lo hi = go (leading-top 32 m lo (wide m hi))
+  where
+    wide : (m : ℕ) → m < 8388608 → m < 2 ^ 32
+    wide m h = omega arith
+
+    most : (z i : ℕ) → z + suc i ≡ 32 → suc i + (z + 21) ≡ 53
+    most z i h = omega arith
+
+    go : (i : ℕ) × (leadingZeros 32 m + suc i ≡ 32) × (2 ^ i ≤ m) × (m < 2 ^ suc i) → m * 2 ^ (leadingZeros 32 m + 21) < 2 ^ 53
+    go (i, h, a, b) = subst (λ (x : ℕ). m * 2 ^ (leadingZeros 32 m + 21) < 2 ^ x) (most (leadingZeros 32 m) i h) (shl-lt (suc i) (leadingZeros 32 m + 21) b)
+
+-- the leading zeros of the fraction give the shift and the new exponent
+pub widens-low : (m : ℕ) → 0 < m → m < 8388608 → Widens m ((904 - leadingZeros 32 m) * 4503599627370496 + m * 2 ^ (leadingZeros 32 m + 21))
+widens-low m lo hi = go (leading-top 32 m lo (wide m hi))
+  where
+    wide : (m : ℕ) → m < 8388608 → m < 2 ^ 32
+    wide m h = omega arith
+
+    under : (m : ℕ) → m < 8388608 → m < 2147483648
+    under m h = omega arith
+
+    field : (m : ℕ) → m < 8388608 → m / 8388608 ≡ 0
+    field m h = omega arith
+
+    fraction : (m : ℕ) → m < 8388608 → m % 8388608 ≡ m
+    fraction m h = omega arith
+
+    least : (z i : ℕ) → z + suc i ≡ 32 → i + (z + 21) ≡ 52
+    least z i h = omega arith
+
+    places : (z i : ℕ) → z + suc i ≡ 32 → z + 21 + (904 - z) + 149 ≡ 0 + 1074
+    places z i h = omega arith
+
+    bound : (z i q : ℕ) → z + suc i ≡ 32 → q < 9007199254740992 → (904 - z) * 4503599627370496 + q ≤ 9218868437227405312
+    bound z i q h k = omega arith
+
+    go : (i : ℕ) × (leadingZeros 32 m + suc i ≡ 32) × (2 ^ i ≤ m) × (m < 2 ^ suc i) → Widens m ((904 - leadingZeros 32 m) * 4503599627370496 + m * 2 ^ (leadingZeros 32 m + 21))
+    go (i, h, a, b) =
+        let z = leadingZeros 32 m in
+        let q = m * 2 ^ (z + 21) in
+        let q-lt : q < 9007199254740992 = low-shift m lo hi in
+        let q-ge : 4503599627370496 ≤ q = le-trans (le-of-eq (ap (λ (x : ℕ). 2 ^ x) (sym (least z i h)) ∙ pow-add 2 i (z + 21))) (mul-le-mul-right (2 ^ (z + 21)) a) in
+        record {
+          small = bound z i q h q-lt;
+          same = λ s.
+              carried s m m 0 q (904 - z)
+              (subst (λ (x : ℕ). HasValue (ofBits binary32 (signed binary32 s m)) s (x * 2 ^ 0) (2 ^ 149)) (fraction m hi) (reads-low binary32 s m (under m hi) (field m hi)))
+              (shift m (z + 21) (904 - z) 149 ∙ ap (λ (x : ℕ). m * 2 ^ x) (places z i h) ∙ sym (shift-two m 0 1074)) (le-of-lt q-lt) (inr q-ge);
+        }
+
+-- the same, as the code has it: z and w are what a call returned, and a shift to the left is a product cut at 64 bits
+pub widens-shifted : (m z w : ℕ) → 0 < m → m < 8388608 → z ≡ leadingZeros 32 m → w ≡ m → Widens m ((904 - z) * 4503599627370496 + w * 2 ^ (z + 21) % 18446744073709551616)
+widens-shifted m z w lo hi e f =
+    subst (λ (r : ℕ). Widens m r)
+    (ap (λ (x : ℕ). (904 - leadingZeros 32 m) * 4503599627370496 + x) (sym (mod-eq-of-lt (more (m * 2 ^ (leadingZeros 32 m + 21)) (low-shift m lo hi))))
+    ∙ ap (λ (x : ℕ). (904 - x) * 4503599627370496 + m * 2 ^ (x + 21) % 18446744073709551616) (sym e)
+    ∙ ap (λ (x : ℕ). (904 - z) * 4503599627370496 + x * 2 ^ (z + 21) % 18446744073709551616) (sym f))
+    (widens-low m lo hi)
+  where
+    more : (x : ℕ) → x < 2 ^ 53 → x < 18446744073709551616
+    more x h = omega arith
