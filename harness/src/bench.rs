@@ -1,6 +1,7 @@
 //! The cost of the part beside the Rust's: bench [ROUNDS]. Both play one signal by turns. A line is a name, the samples of a
 //! call, and the part's time over the Rust's: the least, the middle and the most of the rounds' ratios. A strip's line has the same
-//! once more with the calls' own cost (as many runs of no sample, which refusal 4 checks like any other) taken off.
+//! once more with the calls' own cost (as many runs of no sample, which refusal 4 checks like any other) taken off. 'Alone' is the part's
+//! time for samples in calls of 1, the calls' own cost taken off, over its time for them in calls of 1,024.
 #![allow(dead_code)]
 
 use std::hint::black_box;
@@ -230,6 +231,21 @@ fn strip(name: &str, setup: &Setup, moving: bool, x: &[f64], size: usize, rounds
     println!("{name}\t{size}\t{}\t{}", spread(whole), spread(apart));
 }
 
+/// A sample that comes alone, its call's own cost taken off, beside one of a call of 1,024: the part's times alone.
+fn alone(name: &str, setup: &Setup, moving: bool, x: &[f64], rounds: u64) {
+    let mut memory = Memory::new(0);
+    let (mut frames, mut gains) = (vec![0.0f32; 2 * x.len()], vec![0; x.len()]);
+    let mut play = |memory: &mut Memory, size: usize| ours(memory, setup, moving, x, size, (&mut frames, &mut gains));
+    let ratios = (0..rounds)
+        .map(|_| {
+            let single = play(&mut memory, 1);
+            let calls = empty(&mut memory, x.len());
+            (single - calls) / play(&mut memory, 1024)
+        })
+        .collect();
+    println!("{name}, alone\t1\t{}", spread(ratios));
+}
+
 fn main() {
     let rounds = std::env::args().nth(1).and_then(|word| word.parse().ok()).unwrap_or(20);
     let mut rng = Rng::new(1);
@@ -240,6 +256,8 @@ fn main() {
         strip("plain, fixed", &plain(), false, &x, size, rounds);
         strip("1,024 kicks", &crowded(), false, &x[..8192], size, rounds);
     }
+    alone("everything, moving", &lane(true), true, &x, rounds);
+    alone("plain, fixed", &plain(), false, &x, rounds);
     for size in [64, 1024] {
         tape("tape", &lane(false), &x, size, rounds);
         tape("tape swept", &lane(true), &x, size, rounds);

@@ -15,8 +15,7 @@ use Rattle.strip.specs.declared.Opened.{Opened}
 use Rattle.strip.specs.declared.Outcome.{Outcome}
 use Rattle.strip.specs.declared.Rested.{Rested}
 use Rattle.strip.specs.Calls.{OpenDone, RunDone, state, openCall, runCall, latchCall, restCall}
-use Rattle.part.specs.Pieces.{opened}
-use Rattle.part.specs.Run.{went}
+use Rattle.part.specs.Pieces.{opened, went}
 use Rattle.packing.specs.declared.Unpacked as unpack
 use Rattle.packing.specs.Packing.{unpacked}
 use Rattle.goqhari.specs.Library.{Back, back, openedBack, outcomeBack, declinedBy, setupOf, opening, openDone, libraryOpen, drumming, running, runDone, runFrom, libraryRun, latchFrom, libraryLatch, Resting, resting, restedBack, restFrom, libraryRest}

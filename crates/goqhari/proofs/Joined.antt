@@ -23,7 +23,7 @@ use Rattle.strip.specs.declared.Rested as rested
 use Rattle.strip.specs.declared.Rested.{Rested}
 use Rattle.strip.specs.Refusals.{longEnough, runRefusal, latchRefusal, openRefusal}
 use Rattle.master.specs.Kept.{framesOut, countsOut}
-use Rattle.part.specs.Run.{went}
+use Rattle.part.specs.Pieces.{went}
 use Rattle.strip.specs.Calls.{State, state, stepOn, ranOn, heardOn, first, restingOn, OpenDone, RunDone, openedStrip, openedState, openCall, runCall, latchedStrip, latchCall, restCall}
 use Rattle.strip.specs.Promise.{Call, run, move, ask, Answer, stripOf, runAnswer, moveAnswer, restAnswer, answerTo, after, through, Joined}
 use Rattle.strip.proofs.Joined.{joined}
