@@ -5,7 +5,7 @@ ghost use Prim.Native.Nat.{_+_, _-_, _≤_};
 ghost use lib.Dec.{leb};
 ghost use lib.ListN.{length, drop};
 ghost use mathlib.Core.Bool.{cond};
-ghost use Rattle.casts.specs.Arithmetic.{_⊗_, one};
+ghost use Rattle.casts.specs.Arithmetic.{_⊗_, one, whole};
 ghost use Rattle.stage.specs.Stage.{ran, outs};
 ghost use Rattle.duck.specs.Sidechain.{span, sidechainGain};
 ghost use Rattle.duck.specs.Rising.{risingFrom};
@@ -97,19 +97,25 @@ pub fn formed(duck: Duck, counts: &[u64]) -> bool
 
 // ---- one kick
 
+// n as a float. Below 2^32, where all that is since a kick lies, one conversion does.
+fn counted(n: u64) -> f64
+    ensures { λ r. ⌜ r ≡ whole n ⌝ }
+{
+    if n < LAST {
+        return (n as u32) as f64;
+    }
+    std::num::nearest_u64_to_f64(n)
+}
+
 pub fn sidechain_gain(rate: DuckRate, since: u64) -> f64
     ensures { λ r. ⌜ r ≡ sidechainGain rate since ⌝ }
 {
     if since < rate.attack {
-        return 1.0
-            - (1.0 - rate.floor) * std::num::nearest_u64_to_f64(since)
-                / std::num::nearest_u64_to_f64(rate.attack);
+        return 1.0 - (1.0 - rate.floor) * counted(since) / counted(rate.attack);
     }
     let up = since - rate.attack;
     if up < rate.release {
-        return rate.floor
-            + (1.0 - rate.floor) * std::num::nearest_u64_to_f64(up)
-                / std::num::nearest_u64_to_f64(rate.release);
+        return rate.floor + (1.0 - rate.floor) * counted(up) / counted(rate.release);
     }
     1.0
 }

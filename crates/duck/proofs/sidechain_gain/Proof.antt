@@ -6,28 +6,28 @@ use borrow.Author.Needs.{needs}
 use Rattle.duck.proofs.sidechain_gain.Statement.{statement}
 use Rattle.duck.proofs.sidechain_gain.Tie as tie
 
-nearest-u64-to-f64-requires : tie.Need-nearest-u64-to-f64-requires
-nearest-u64-to-f64-requires c κs = search needs
+counted-requires : tie.Need-counted-requires
+counted-requires c κs = search needs
 
-nearest-u64-to-f64-requires-2 : tie.Need-nearest-u64-to-f64-requires-2
-nearest-u64-to-f64-requires-2 c κs = search needs
+counted-requires-2 : tie.Need-counted-requires-2
+counted-requires-2 c κs = search needs
 
 returns : tie.Need-returns
 unfolding sidechainGain
-returns c = rw (c .nearest-u64-to-f642 .ensures, c .before .nearest-u64-to-f64 .ensures, lt-ltb _ _ (c .before .before .before .if1 .taken))
+returns c = rw (c .counted2 .ensures, c .before .counted .ensures, lt-ltb _ _ (c .before .before .before .if1 .taken))
 
-nearest-u64-to-f64-requires-3 : tie.Need-nearest-u64-to-f64-requires-3
-nearest-u64-to-f64-requires-3 c κs = search needs
+counted-requires-3 : tie.Need-counted-requires-3
+counted-requires-3 c κs = search needs
 
-nearest-u64-to-f64-requires-4 : tie.Need-nearest-u64-to-f64-requires-4
-nearest-u64-to-f64-requires-4 c κs = search needs
+counted-requires-4 : tie.Need-counted-requires-4
+counted-requires-4 c κs = search needs
 
 returns-2 : tie.Need-returns-2
 unfolding sidechainGain
 returns-2 c =
     let a = c .before .before .before .before .before .before .before .before .before .args in
     let h : a .since < a .rate .attack + a .rate .release = omega arith in
-    rw (c .before .nearest-u64-to-f644 .ensures, c .before .before .nearest-u64-to-f643 .ensures, le-ltb _ _ (c .before .before .before .before .before .before .before .if1 .left), lt-ltb _ _ h)
+    rw (c .before .counted4 .ensures, c .before .before .counted3 .ensures, le-ltb _ _ (c .before .before .before .before .before .before .before .if1 .left), lt-ltb _ _ h)
 
 returns-3 : tie.Need-returns-3
 unfolding sidechainGain
@@ -40,10 +40,10 @@ pub sidechain-gain-spec : {M : Type 1} → statement M
 sidechain-gain-spec =
     tie.close
     (tie.spec
-    nearest-u64-to-f64-requires
-    nearest-u64-to-f64-requires-2
+    counted-requires
+    counted-requires-2
     returns
-    nearest-u64-to-f64-requires-3
-    nearest-u64-to-f64-requires-4
+    counted-requires-3
+    counted-requires-4
     returns-2
     returns-3)
