@@ -4,6 +4,9 @@
 # replay: the replays' tallies, of the part's answers beside kept lists of the oracle's. bench: the part's time over the Rust's.
 .PHONY: test lib demo sheet replay bench
 
+# rt waits for every crate of a level before it begins the next: with more at a time than processors none stands idle the while
+export RT_JOBS ?= 4
+
 test:
 	rt fmt --check
 	harness/compare 1 20
@@ -12,11 +15,12 @@ test:
 
 lib: build/libgoqhari.a
 
-# proved again where anything that it is made of is newer
-build/libgoqhari.a: crates.txt $(shell find crates -name '*.rt' -o -name '*.antt')
-	rt staticlib goqhari
+# proved again where anything that it is made of is newer; what it stands on first, since rt staticlib proves one crate after the other
+build/lib%.a: crates.txt $(shell find crates -name '*.rt' -o -name '*.antt')
+	rt check $$(sed -n 's/^$*: //p' crates.txt)
+	rt staticlib $*
 	mkdir -p build
-	cp target/staticlib/libgoqhari.a build/libgoqhari.a
+	cp target/staticlib/lib$*.a $@
 
 demo: lib
 	bindings/example demo build/demo.wav build/demo.svg

@@ -34,8 +34,8 @@ extern "C" {
 /* Samples a second. */
 #define GOQHARI_RATE 44100
 /* The strip's numbers, and its words. */
-#define GOQHARI_NUMBERS 85
-#define GOQHARI_WORDS 18
+#define GOQHARI_NUMBERS 87
+#define GOQHARI_WORDS 19
 /* The sample store's numbers, and the count store's words. */
 #define GOQHARI_STORE_NUMBERS 49152
 #define GOQHARI_STORE_COUNTS 4096

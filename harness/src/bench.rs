@@ -1,7 +1,7 @@
 //! The cost of the part beside the Rust's: bench [ROUNDS]. Both play one signal by turns. A line is a name, the samples of a
 //! call, and the part's time over the Rust's: the least, the middle and the most of the rounds' ratios. A strip's line has the same
 //! once more with the calls' own cost (as many runs of no sample, which refusal 4 checks like any other) taken off. 'Alone' is the part's
-//! time for samples in calls of 1, the calls' own cost taken off, over its time for them in calls of 1,024.
+//! time for samples in calls of 1, the calls' own cost taken off, over its time for them in calls of 1,024, and then over the Rust's.
 #![allow(dead_code)]
 
 use std::hint::black_box;
@@ -184,6 +184,12 @@ struct Room {
     frames: Vec<[f64; 2]>,
 }
 
+impl Room {
+    fn new() -> Self {
+        Self { band: Vec::new(), y: Vec::new(), sent: Vec::new(), sides: [Vec::new(), Vec::new()], frames: Vec::new() }
+    }
+}
+
 /// The Rust's Tape, Plate and Ceiling joined, over the signal.
 fn theirs(room: &mut Room, setup: &Setup, moving: bool, x: &[f64], size: usize, heard: &mut [f32]) -> f64 {
     let mut automation = setup.automation();
@@ -216,8 +222,7 @@ fn theirs(room: &mut Room, setup: &Setup, moving: bool, x: &[f64], size: usize, 
 
 fn strip(name: &str, setup: &Setup, moving: bool, x: &[f64], size: usize, rounds: u64) {
     let mut memory = Memory::new(0);
-    let mut room =
-        Room { band: Vec::new(), y: Vec::new(), sent: Vec::new(), sides: [Vec::new(), Vec::new()], frames: Vec::new() };
+    let mut room = Room::new();
     let (mut frames, mut gains) = (vec![0.0f32; 2 * x.len()], vec![0; x.len()]);
     let mut heard = frames.clone();
     let (mut whole, mut apart) = (Vec::new(), Vec::new());
@@ -231,19 +236,19 @@ fn strip(name: &str, setup: &Setup, moving: bool, x: &[f64], size: usize, rounds
     println!("{name}\t{size}\t{}\t{}", spread(whole), spread(apart));
 }
 
-/// A sample that comes alone, its call's own cost taken off, beside one of a call of 1,024: the part's times alone.
+/// A sample that comes alone, its call's own cost taken off, beside one of a call of 1,024: the part's, then the Rust's.
 fn alone(name: &str, setup: &Setup, moving: bool, x: &[f64], rounds: u64) {
     let mut memory = Memory::new(0);
+    let mut room = Room::new();
     let (mut frames, mut gains) = (vec![0.0f32; 2 * x.len()], vec![0; x.len()]);
-    let mut play = |memory: &mut Memory, size: usize| ours(memory, setup, moving, x, size, (&mut frames, &mut gains));
-    let ratios = (0..rounds)
-        .map(|_| {
-            let single = play(&mut memory, 1);
-            let calls = empty(&mut memory, x.len());
-            (single - calls) / play(&mut memory, 1024)
-        })
-        .collect();
-    println!("{name}, alone\t1\t{}", spread(ratios));
+    let mut heard = frames.clone();
+    let (mut own, mut other) = (Vec::new(), Vec::new());
+    for _ in 0..rounds {
+        let single = ours(&mut memory, setup, moving, x, 1, (&mut frames, &mut gains)) - empty(&mut memory, x.len());
+        own.push(single / ours(&mut memory, setup, moving, x, 1024, (&mut frames, &mut gains)));
+        other.push(single / theirs(&mut room, setup, moving, x, 1024, &mut heard));
+    }
+    println!("{name}, alone\t1\t{}\t{}", spread(own), spread(other));
 }
 
 fn main() {

@@ -6,8 +6,8 @@ use crate::setup::{Numbers, Setup};
 mod raw;
 
 /// The header's sizes: numbers and words of a packed strip, and the stores'.
-pub const NUMBERS: usize = 85;
-pub const WORDS: usize = 18;
+pub const NUMBERS: usize = 87;
+pub const WORDS: usize = 19;
 pub const STORE: usize = 49_152;
 pub const COUNTS: usize = 4_096;
 

@@ -39,9 +39,9 @@ pub const GAIN_UNIT: u64 = 221 << 40;
 pub const CEILING: f32 = 0.891_250_9;
 
 /// The f64 of a packed strip, GOQHARI_NUMBERS of the header.
-pub const NUMBERS: usize = 85;
+pub const NUMBERS: usize = 87;
 /// The u64 of a packed strip, GOQHARI_WORDS of the header.
-pub const WORDS: usize = 18;
+pub const WORDS: usize = 19;
 
 /// The ceiling's gain that a count of [`Strip::run`] stands for: 1 at [`GAIN_UNIT`].
 pub fn gain(count: u64) -> f64 {

@@ -18,12 +18,13 @@ use Rattle.rate.specs.declared.Rate.{Rate}
 use Rattle.rate.specs.declared.TapeRate.{TapeRate}
 use Rattle.rate.specs.Rate.{RateUsable, tapeSamples, plateSamples, ceilingSamples, valuesAt, tapeCounts, ceilingCounts, positionsAt}
 use Rattle.ramp.specs.declared.Ramp.{Ramp}
-use Rattle.duck.specs.declared.DuckRate.{DuckRate}
+use Rattle.sidechain.specs.declared.DuckRate.{DuckRate}
 use Rattle.duck.specs.Cursors.{DuckIn, duckOn, duckStepOn, Within}
 use Rattle.duck.proofs.Loops.{gain-within}
 use Rattle.tape.specs.declared.TapeSetup.{TapeSetup}
 use Rattle.tape.specs.Tape.{Lists}
 use Rattle.tape.specs.Kept.{TapeIn, duckedStepOn, tapeTuned, tapeStepOn}
+use Rattle.tape.proofs.Lasting.{tuned-duck}
 use Rattle.tape.proofs.Related.{ring-sized, counts-sized}
 use Rattle.plate.specs.Plate.{PlateIn}
 use Rattle.master.specs.declared.Heard.{Heard}
@@ -48,7 +49,8 @@ ducked-within r false d n s x w = unfold identity in w
 tape-within : (r : TapeRate) (s : TapeSetup) (daylight rain : Ramp) (l : Lists) (d : Bool) (n : ℕ) (t : TapeIn) (x : Float) → Within (duckOn (t .tape .duck) (t .counts))
     → Within (duckOn (tapeStepOn r s daylight rain l d n t x .next .tape .duck) (tapeStepOn r s daylight rain l d n t x .next .counts))
 unfolding tapeStepOn tapeTuned
-tape-within r s daylight rain l d n t x w = ducked-within (r .duck) (s .ducked) d n (duckOn (t .tape .duck) (t .counts)) _ w
+tape-within r s daylight rain l d n t x w =
+    ducked-within (r .duck) (s .ducked) d n _ _ (rw (tuned-duck r (s .tone) daylight (l .positions) (l .values) n (t .tape)) w)
 
 whole-long : (r : Rate) (s : Strip) (values : List Float) (positions : List ℕ) (n : ℕ) (t : TapeIn) (p : PlateIn) (c : CeilingIn) → Long r t p c
     → (length (whole s values positions n t p c .store) ≡ valuesAt r + length values) × (length (whole s values positions n t p c .counts) ≡ positionsAt r + length positions)

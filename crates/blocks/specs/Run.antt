@@ -9,11 +9,9 @@ use lib.Ieee.{Float}
 use Rattle.casts.specs.Arithmetic.{_⊕_}
 use Rattle.stage.specs.Stage.{ran, outs}
 use Rattle.rate.specs.declared.Rate.{Rate}
-use Rattle.automation.specs.declared.Tuning.{Tuning}
-use Rattle.automation.specs.declared.Piece.{Piece}
-use Rattle.automation.specs.Automation.{tuningAt}
-use Rattle.automation.specs.Pieces.{span, pieceAt}
 use Rattle.duck.specs.Cursors.{duckOn, Within}
+use Rattle.tape.specs.declared.Tape.{Tape}
+use Rattle.tape.specs.Kept.{tunedAt}
 use Rattle.master.specs.Kept.{framesOut, countsOut}
 use Rattle.master.specs.WellFormed.{wellFormed}
 use Rattle.strip.specs.declared.Strip.{Strip}
@@ -32,17 +30,15 @@ pub record Runs (r : Rate) (st : State) : Type 0 where
   pub ducks : Within (duckOn (st .strip .tape .duck) (tapeIn r st .counts))
   pub well : T (wellFormed (r .ceiling) (ceilingIn r st))
 
--- the tuning of the sample that comes next, and how long it lasts
-abbrev pub pieceOf : Rate → State → Piece
-pieceOf r st = pieceAt (st .strip .setup .tape .tone) (st .strip .daylight) (listsIn r st .positions) (listsIn r st .values) (st .strip .position)
-
-abbrev pub tuningOf : Rate → State → Tuning
-tuningOf r st = tuningAt (st .strip .setup .tape .tone) (st .strip .daylight) (listsIn r st .positions) (listsIn r st .values) (st .strip .position)
+-- the lane tuned for the sample that comes next
+abbrev pub tunedOf : Rate → State → Tape
+tunedOf r st =
+    tunedAt (r .tape) (st .strip .setup .tape .tone) (st .strip .daylight) (listsIn r st .positions) (listsIn r st .values) (st .strip .position) (st .strip .tape)
 
 -- as many samples as have the tuning of the first, and no further than 2^32
 pub record Piecewise (r : Rate) (st : State) (samples : ℕ) : Type 0 where
   pub some : 0 < samples
-  pub few : samples ≤ span (st .strip .daylight) (listsIn r st .positions) (st .strip .position)
+  pub few : st .strip .position + samples ≤ tunedOf r st .until
   pub before : st .strip .position + samples ≤ 4294967296
 
 -- room for the two sides, the frames and the gain counts

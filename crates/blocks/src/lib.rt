@@ -1,5 +1,5 @@
 // A run: blocks of samples through the lane, the plate and the ceiling to frames, each stage on its own parts of the stores.
-// Uses the stages, strip for its types and definitions, and refusals for the places of the parts.
+// Uses the stages, rate for the places of their parts, and strip for its types and definitions.
 ghost use mathlib.Core.Path.{_≡_};
 ghost use mathlib.Core.List.{map};
 ghost use Prim.Native.Nat.{_+_, _*_, _<_, _≤_};
@@ -10,24 +10,18 @@ ghost use Rattle.stage.specs.Stage.{ran, outs};
 ghost use Rattle.stream.specs.declared.Frame.{Frame};
 ghost use Rattle.rate.specs.Rate.{RateUsable};
 ghost use Rattle.rate.specs.Plate.{PlateUsable};
-ghost use Rattle.automation.specs.Automation.{tuningAt};
-ghost use Rattle.automation.specs.Pieces.{span, pieceAt};
 ghost use Rattle.plate.specs.Plate.{plateOn, partOf};
-ghost use Rattle.tape.specs.Kept.{tuned};
 ghost use Rattle.master.specs.Kept.{framesOut, countsOut};
 ghost use Rattle.strip.specs.Calls.{state, listsIn, mixedStepOn, stepOn};
-ghost use Rattle.blocks.specs.Run.{added, Runs, Piecewise, Outputs, tuningOf, pieceOf, ranAll, allRan};
-use automation::Piece;
-use automation::Tuning;
+ghost use Rattle.blocks.specs.Run.{added, Runs, Piecewise, Outputs, tunedOf, ranAll, allRan};
 use plate::Plate;
 use rate::PlateRate;
 use rate::Rate;
-use rate::TapeRate;
-use refusals::places;
+use rate::places;
 use strip::Strip;
 use tape::Tape;
 
-// The samples of a block at most: a piece has no more.
+// The samples of a block at most.
 const BLOCK: usize = 32;
 
 // ---- the plate, with what it is mixed with
@@ -82,24 +76,11 @@ fn mix(
 
 // ---- a block of at most as many samples as have one tuning
 
-fn tune(rate: TapeRate, corner: f32, tape: Tape) -> Tape
-    ensures { λ r. ⌜ r ≡ tuned rate corner tape ⌝ }
-{
-    let tone = tape.tone.retuned(corner, rate.hz);
-    let equalizer = tape.equalizer;
-    let duck = tape.duck;
-    Tape {
-        tone,
-        equalizer,
-        duck,
-    }
-}
-
 // Stage by stage, each on its own parts of the stores. The samples lie in dry, and left and right are room for the two sides.
 fn stages(
     rate: Rate,
     strip: Strip,
-    tuning: Tuning,
+    tape: Tape,
     drums: bool,
     dry: &mut [f64],
     left: &mut [f64],
@@ -111,7 +92,7 @@ fn stages(
 ) -> Strip
     requires { ⌜ RateUsable rate ⌝ }
     requires { ⌜ Runs rate (state strip (now store) (now counts)) ⌝ }
-    requires { ⌜ tuning ≡ tuningOf rate (state strip (now store) (now counts)) ⌝ }
+    requires { ⌜ tape ≡ tunedOf rate (state strip (now store) (now counts)) ⌝ }
     requires { ⌜ Piecewise rate (state strip (now store) (now counts)) (length (now dry)) ⌝ }
     requires { ⌜ Outputs (length (now dry)) (length (now left)) (length (now right)) (length (now frames)) (length (now gains)) ⌝ }
     ensures { λ r. ⌜ ranAll r (now (store .exit)) (now (counts .exit)) (now (frames .exit)) (now (gains .exit)) ≡ allRan rate drums (state strip (now (store .entry)) (now (counts .entry))) (now (dry .entry)) ⌝ }
@@ -124,13 +105,11 @@ fn stages(
     let ceiling_at = places::ceiling_at(rate);
     let values_at = places::values_at(rate);
     let positions_at = places::positions_at(rate);
-    let tuned = tune(rate.tape, tuning.corner, strip.tape);
     let tape = tape::tape_block(
         rate.tape,
         setup.tape,
         rain,
-        tuning.drive,
-        tuned,
+        tape,
         &mut store[0..plate_at],
         &mut counts[0..places::DUCK],
         dry,
@@ -175,7 +154,7 @@ fn stages(
 fn block(
     rate: Rate,
     strip: Strip,
-    tuning: Tuning,
+    tape: Tape,
     samples: &[f64],
     drums: bool,
     frames: &mut [f32],
@@ -185,7 +164,7 @@ fn block(
 ) -> Strip
     requires { ⌜ RateUsable rate ⌝ }
     requires { ⌜ Runs rate (state strip (now store) (now counts)) ⌝ }
-    requires { ⌜ tuning ≡ tuningOf rate (state strip (now store) (now counts)) ⌝ }
+    requires { ⌜ tape ≡ tunedOf rate (state strip (now store) (now counts)) ⌝ }
     requires { ⌜ Piecewise rate (state strip (now store) (now counts)) (length (now samples)) ⌝ }
     requires { ⌜ (length (now samples) ≤ 32) × (length (now frames) ≡ 2 * length (now samples)) × (length (now gains) ≡ length (now samples)) ⌝ }
     ensures { λ r. ⌜ ranAll r (now (store .exit)) (now (counts .exit)) (now (frames .exit)) (now (gains .exit)) ≡ allRan rate drums (state strip (now (store .entry)) (now (counts .entry))) (now (samples .entry)) ⌝ }
@@ -198,7 +177,7 @@ fn block(
     stages(
         rate,
         strip,
-        tuning,
+        tape,
         drums,
         &mut dry[0..k],
         &mut left[0..k],
@@ -223,11 +202,12 @@ fn copy(samples: &[f64], block: &mut [f64])
 
 // ---- a run's samples, piece by piece
 
-// The tuning of the next sample, and how many samples it lasts.
-fn piece(rate: Rate, strip: Strip, store: &[f64], counts: &[u64]) -> Piece
+// The lane tuned for the next sample.
+fn tuned(rate: Rate, strip: Strip, store: &[f64], counts: &[u64]) -> Tape
     requires { ⌜ RateUsable rate ⌝ }
     requires { ⌜ Runs rate (state strip (now store) (now counts)) ⌝ }
-    ensures { λ r. ⌜ r ≡ pieceOf rate (state strip (now (store .entry)) (now (counts .entry))) ⌝ }
+    requires { ⌜ strip .position < 4294967296 ⌝ }
+    ensures { λ r. ⌜ r ≡ tunedOf rate (state strip (now (store .entry)) (now (counts .entry))) ⌝ }
 {
     let values_at = places::values_at(rate);
     let positions_at = places::positions_at(rate);
@@ -238,11 +218,14 @@ fn piece(rate: Rate, strip: Strip, store: &[f64], counts: &[u64]) -> Piece
     let lane = setup.tape;
     let tone = lane.tone;
     let daylight = strip.daylight;
-    automation::piece_at(
+    let tape = strip.tape;
+    tape::tuned(
+        rate.tape,
         tone,
         daylight,
         &counts[positions_at..positions_end],
         &store[values_at..values_end],
+        tape,
         strip.position,
     )
 }
@@ -251,6 +234,17 @@ fn least(a: u64, b: usize) -> usize
     ensures { λ r. ⌜ (r ≤ a) × (r ≤ b) × (0 < a → 0 < b → 0 < r) ⌝ }
 {
     if a < b as u64 { a as usize } else { b }
+}
+
+// How many of the samples left the next block has: those of one tuning, and no more than its arrays hold.
+fn block_len(until: u64, n: u64, left: usize) -> usize
+    requires { ⌜ (n < until) × (0 < left) ⌝ }
+    ensures { λ r. ⌜ (0 < r) × (n + r ≤ until) × (r ≤ left) × (r ≤ 32) ⌝ }
+{
+    if left < BLOCK {
+        return least(until - n, left);
+    }
+    least(until - n, BLOCK)
 }
 
 pub fn go(
@@ -272,15 +266,14 @@ pub fn go(
     let mut strip = strip;
     let mut i: usize = 0;
     while i < samples.len() {
-        let p = piece(rate, strip, store, counts);
-        let e = i + least(p.len, samples.len() - i);
+        let tape = tuned(rate, strip, store, counts);
+        let e = i + block_len(tape.until, strip.position, samples.len() - i);
         let from = 2 * i;
         let to = 2 * e;
-        let tuning = p.tuning;
         strip = block(
             rate,
             strip,
-            tuning,
+            tape,
             &samples[i..e],
             drums,
             &mut frames[from..to],

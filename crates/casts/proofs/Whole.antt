@@ -1,7 +1,7 @@
 -- The whole part where it does not fit the type: the ends of the range, and 0 for a NaN. Assumes nothing.
 use mathlib.Core.Path.{_≡_, refl, sym, ap, _∙_, subst}
 use mathlib.Core.Bool.{true, false, true≢false}
-use Prim.Native.Nat.{ℕ, _+_, _-_, _*_, _/_, _^_, _<_, _≤_}
+use Prim.Native.Nat.{ℕ, _+_, _*_, _/_, _^_, _<_, _≤_}
 use native.Mathlib.Nat.{min-eq-right, lt-of-not-le, le-of-lt, le-div-iff-mul-le}
 use native.Mathlib.Omega.{arith}
 use lib.IntN.{pos, negsuc, negℤ}

@@ -13,8 +13,8 @@ use lib.Ieee.{Float}
 use borrow.Author.Tests.{le-leb, lt-leb}
 use Rattle.casts.specs.Arithmetic.{_⊗_, one}
 use Rattle.stage.specs.Stage.{Step}
-use Rattle.duck.specs.declared.DuckRate.{DuckRate}
-use Rattle.duck.specs.Sidechain.{span, sidechainGain}
+use Rattle.sidechain.specs.declared.DuckRate.{DuckRate}
+use Rattle.sidechain.specs.Sidechain.{span, sidechainGain}
 use Rattle.duck.specs.Rising.{risingFrom}
 use Rattle.duck.specs.Cursors.{DuckIn, duckOn, laid, isMark, flag, kicksIn, marksIn, Reached, reachedAt, reach, released, timesUntil, gave, gainOn, Within}
 
@@ -136,6 +136,26 @@ reach-within (suc f) c n d u = by (leb (getD u c 0) n) (reach-within f (c + 1) n
     by true h = omega arith
     by false h = omega arith
 
+reach-from : (f c n : ℕ) (d : Bool) (u : List ℕ) → c ≤ reach f c n d u .cursor
+unfolding reach
+reach-from zero c n d u = omega arith
+reach-from (suc f) c n d u = by (leb (getD u c 0) n) (reach-from f (c + 1) n d (set u (1024 + c) (flag d)))
+  where
+    by : (b : Bool) → c + 1 ≤ reach f (c + 1) n d (set u (1024 + c) (flag d)) .cursor → c ≤ cond b (reach f (c + 1) n d (set u (1024 + c) (flag d))) (reachedAt c u) .cursor
+    by true h = omega arith
+    by false h = omega arith
+
+-- a cursor that stays has marked none
+reach-none : (f c n : ℕ) (d : Bool) (u : List ℕ) → reach f c n d u .cursor ≡ c → reach f c n d u .part ≡ u
+unfolding reach
+reach-none zero c n d u e = refl
+reach-none (suc f) c n d u e = by (leb (getD u c 0) n) e (reach-from f (c + 1) n d (set u (1024 + c) (flag d)))
+  where
+    by : (b : Bool) → cond b (reach f (c + 1) n d (set u (1024 + c) (flag d))) (reachedAt c u) .cursor ≡ c → c + 1 ≤ reach f (c + 1) n d (set u (1024 + c) (flag d)) .cursor
+        → cond b (reach f (c + 1) n d (set u (1024 + c) (flag d))) (reachedAt c u) .part ≡ u
+    by true e h = absurd (omega arith)
+    by false e h = refl
+
 released-few : (r : DuckRate) (n : ℕ) (ks : List ℕ) → released r n ks ≤ length ks
 unfolding released
 released-few r n [] = omega arith
@@ -171,17 +191,41 @@ gain-within r d n s w =
       ducking = released-within (s .duck .count) (reach f (s .duck .reached) n d (s .part) .part) r n (s .duck .ducking) (w .few) wide (w .ducking);
     }
 
--- ---- a sample is its three loops
-abbrev gains : DuckRate → ℕ → DuckIn → Reached → Step DuckIn Float
-gains r n s m =
-    let kicks = kicksIn (s .duck .count) (m .part) in
-    let from = s .duck .ducking + released r n (drop (s .duck .ducking) kicks) in
-    gave (record { count = s .duck .count; reached = m .cursor; ducking = from }) (m .part) (timesUntil r n one (drop from kicks) (drop from (marksIn (s .duck .count) (m .part))))
+-- ---- a sample is its loops
 
-pub gain-is : (r : DuckRate) (d : Bool) (n : ℕ) (s : DuckIn) (m : ℕ) (u : List ℕ) (from : ℕ) (g : Float)
-    → reachedAt m u ≡ reach (s .duck .count - s .duck .reached) (s .duck .reached) n d (s .part)
-    → from ≡ s .duck .ducking + released r n (drop (s .duck .ducking) (kicksIn (s .duck .count) u))
-    → g ≡ timesUntil r n one (drop from (kicksIn (s .duck .count) u)) (drop from (marksIn (s .duck .count) u))
-    → gave (record { count = s .duck .count; reached = m; ducking = from }) u g ≡ gainOn r d n s
-unfolding gainOn
-gain-is r d n s m u from g e f h = rw (h, f) (ap (gains r n s) e)
+abbrev pub productOn : DuckRate → ℕ → DuckIn → Float
+productOn r n s =
+    let from = s .duck .ducking in
+    timesUntil r n one (drop from (kicksIn (s .duck .count) (s .part))) (drop from (marksIn (s .duck .count) (s .part)))
+
+module _ (r : DuckRate) (d : Bool) (n : ℕ) (s : DuckIn) where
+  abbrev on : Reached → DuckIn
+  on m =
+      let from = s .duck .ducking + released r n (drop (s .duck .ducking) (kicksIn (s .duck .count) (m .part))) in
+      duckOn (record { count = s .duck .count; reached = m .cursor; ducking = from }) (m .part)
+
+  pub moved-is : (m : ℕ) (u : List ℕ) (from : ℕ) → reachedAt m u ≡ reach (s .duck .count - s .duck .reached) (s .duck .reached) n d (s .part)
+      → from ≡ s .duck .ducking + released r n (drop (s .duck .ducking) (kicksIn (s .duck .count) u))
+      → duckOn (record { count = s .duck .count; reached = m; ducking = from }) u ≡ gainOn r d n s .next
+  unfolding gainOn
+  moved-is m u from e f = rw f (ap on e)
+
+  pub gain-is : (t : DuckIn) (g : Float) → t ≡ gainOn r d n s .next → g ≡ productOn r n t → gave (t .duck) (t .part) g ≡ gainOn r d n s
+  unfolding gainOn
+  gain-is t g e f = rw (f, e)
+
+  -- cursors that stay where they are leave all as it is
+  pub stays : (t : DuckIn) → t ≡ gainOn r d n s .next → t .duck .reached ≡ s .duck .reached → t .duck .ducking ≡ s .duck .ducking → t ≡ s
+  unfolding gainOn
+  stays t e f g =
+      let count : t .duck .count ≡ s .duck .count = ap (λ (x : DuckIn). x .duck .count) e in
+      let part : t .part ≡ s .part =
+      ap (λ (x : DuckIn). x .part) e ∙ reach-none (s .duck .count - s .duck .reached) (s .duck .reached) n d (s .part) (sym (ap (λ (x : DuckIn). x .duck .reached) e) ∙ f) in
+      let same : duckOn (record { count = t .duck .count; reached = t .duck .reached; ducking = t .duck .ducking }) (t .part)
+      ≡ duckOn (record { count = s .duck .count; reached = s .duck .reached; ducking = s .duck .ducking }) (s .part) = rw (count, f, g, part) in
+      same
+
+pub two-are : (r : DuckRate) (d : Bool) (n : ℕ) (s t u : DuckIn) (at after : Float) → t ≡ gainOn r d n s .next → at ≡ productOn r n t
+    → u ≡ gainOn r d (n + 1) t .next → after ≡ productOn r (n + 1) u
+    → (at ≡ gainOn r d n s .out) × (gave (u .duck) (u .part) after ≡ gainOn r d (n + 1) (gainOn r d n s .next))
+two-are r d n s t u at after e f g h = (ap (λ (o : Step DuckIn Float). o .out) (gain-is r d n s t at e f), gain-is r d (n + 1) t u after g h ∙ ap (gainOn r d (n + 1)) e)

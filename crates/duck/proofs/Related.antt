@@ -13,8 +13,9 @@ use lib.Ieee.{Float}
 use borrow.Author.Tests.{leb-true, leb-false, le-leb, lt-leb, lt-ltb, le-ltb, eq-eqb, ne-eqb}
 use Rattle.casts.specs.Arithmetic.{_⊗_, one}
 use Rattle.stage.proofs.Laws.{Relates}
-use Rattle.duck.specs.declared.DuckRate.{DuckRate}
-use Rattle.duck.specs.Sidechain.{span, sidechainGain, marksAt, ducks, timesGains, unmarked, duckStep}
+use Rattle.sidechain.specs.declared.DuckRate.{DuckRate}
+use Rattle.sidechain.specs.Sidechain.{span, sidechainGain}
+use Rattle.duck.specs.Duck.{marksAt, ducks, timesGains, unmarked, duckStep}
 use Rattle.duck.specs.Rising.{risingFrom}
 use Rattle.duck.specs.Cursors.{DuckIn, laid, isMark, flag, kicksIn, marksIn, Reached, reachedAt, reach, released, timesUntil, gainOn, duckStepOn, Within, duckFormed}
 use Rattle.duck.proofs.Loops.{kicks-length, marks-length, marks-get, gain-within}

@@ -9,8 +9,8 @@ use lib.Ieee.{Float}
 use Rattle.casts.specs.Arithmetic.{_⊗_, one}
 use Rattle.stage.specs.Stage.{Stage, Step}
 use Rattle.duck.specs.declared.Duck.{Duck}
-use Rattle.duck.specs.declared.DuckRate.{DuckRate}
-use Rattle.duck.specs.Sidechain.{span, sidechainGain}
+use Rattle.sidechain.specs.declared.DuckRate.{DuckRate}
+use Rattle.sidechain.specs.Sidechain.{span, sidechainGain}
 use Rattle.duck.specs.Rising.{risingFrom}
 
 pub record DuckIn : Type 0 where

@@ -1,4 +1,3 @@
-pub mod Sidechain
+pub mod Duck
 pub mod Rising
 pub mod Cursors
-pub mod Cases

@@ -1,22 +1,17 @@
-// The duck: a lane's dip under the kicks that the drums sounded (lanes.rs `Duck`, whole.rs `sidechain_gain`). Its part of the
-// count store keeps 1,024 positions and then 1,024 marks. It uses casts and stage, and no rate by its number.
+// The duck: a lane's dip under the kicks that the drums sounded (lanes.rs `Duck`). Its part of the count store keeps 1,024
+// positions and then 1,024 marks. Uses casts, stage and sidechain, and no rate by its number.
 ghost use mathlib.Core.Path.{_≡_};
-ghost use Prim.Native.Nat.{_+_, _-_, _≤_};
+ghost use Prim.Native.Nat.{_+_, _-_, _<_, _≤_};
 ghost use lib.Dec.{leb};
 ghost use lib.ListN.{length, drop};
 ghost use mathlib.Core.Bool.{cond};
-ghost use Rattle.casts.specs.Arithmetic.{_⊗_, one, whole};
+ghost use Rattle.casts.specs.Arithmetic.{_⊗_, one};
 ghost use Rattle.stage.specs.Stage.{ran, outs};
-ghost use Rattle.duck.specs.Sidechain.{span, sidechainGain};
+ghost use Rattle.sidechain.specs.Sidechain.{span, sidechainGain};
 ghost use Rattle.duck.specs.Rising.{risingFrom};
 ghost use Rattle.duck.specs.Cursors.{duckOn, laid, flag, isMark, kicksIn, marksIn, reach, reachedAt, released, timesUntil, gave, gainOn, duckStepOn, Within, duckFormed};
-
-// What of a duck depends on the rate: the attack and the release in samples, and the gain at the bottom.
-pub struct DuckRate {
-    pub attack: u64,
-    pub release: u64,
-    pub floor: f64,
-}
+use sidechain::DuckRate;
+use sidechain::Gains;
 
 // The kicks in use, the first that the lane has not reached, and the first whose duck still releases.
 pub struct Duck {
@@ -28,6 +23,11 @@ pub struct Duck {
 pub struct Ducked {
     pub duck: Duck,
     pub gain: f64,
+}
+
+struct DuckedTwo {
+    duck: Duck,
+    gains: Gains,
 }
 
 // The most kicks; their marks stand after them.
@@ -97,29 +97,6 @@ pub fn formed(duck: Duck, counts: &[u64]) -> bool
 
 // ---- one kick
 
-// n as a float. Below 2^32, where all that is since a kick lies, one conversion does.
-fn counted(n: u64) -> f64
-    ensures { λ r. ⌜ r ≡ whole n ⌝ }
-{
-    if n < LAST {
-        return (n as u32) as f64;
-    }
-    std::num::nearest_u64_to_f64(n)
-}
-
-pub fn sidechain_gain(rate: DuckRate, since: u64) -> f64
-    ensures { λ r. ⌜ r ≡ sidechainGain rate since ⌝ }
-{
-    if since < rate.attack {
-        return 1.0 - (1.0 - rate.floor) * counted(since) / counted(rate.attack);
-    }
-    let up = since - rate.attack;
-    if up < rate.release {
-        return rate.floor + (1.0 - rate.floor) * counted(up) / counted(rate.release);
-    }
-    1.0
-}
-
 // Whether a kick's duck has released at n: kick + attack + release <= n, with no sum that could wrap.
 fn has_released(rate: DuckRate, kick: u64, n: u64) -> bool
     ensures { λ r. ⌜ r ≡ leb (kick + span rate) n ⌝ }
@@ -141,7 +118,23 @@ fn times_gain(rate: DuckRate, gain: f64, since: u64, mark: u64) -> f64
     if mark == 0 {
         return gain;
     }
-    gain * sidechain_gain(rate, since)
+    gain * sidechain::sidechain_gain(rate, since)
+}
+
+// One kick more in the products of two samples.
+fn times_gains(rate: DuckRate, gains: Gains, since: u64, mark: u64) -> Gains
+    requires { ⌜ since + 1 < 4294967296 ⌝ }
+    ensures { λ r. ⌜ r .at ≡ cond (isMark mark) (gains .at ⊗ sidechainGain rate since) (gains .at) ⌝ }
+    ensures { λ r. ⌜ r .after ≡ cond (isMark mark) (gains .after ⊗ sidechainGain rate (since + 1)) (gains .after) ⌝ }
+{
+    if mark == 0 {
+        return gains;
+    }
+    let of = sidechain::sidechain_gains(rate, since);
+    Gains {
+        at: gains.at * of.at,
+        after: gains.after * of.after,
+    }
 }
 
 fn flag_of(drums: bool) -> u64
@@ -150,7 +143,7 @@ fn flag_of(drums: bool) -> u64
     if drums { 1 } else { 0 }
 }
 
-// ---- the three loops of a sample
+// ---- the loops of a sample
 
 // Marks the kicks up to n, from the first that the lane has not reached.
 fn mark(counts: &mut [u64], count: usize, reached: usize, n: u64, drums: bool) -> usize
@@ -184,13 +177,13 @@ fn advance(rate: DuckRate, counts: &[u64], count: usize, ducking: usize, n: u64)
     first
 }
 
-// The product of the gains from a kick on.
-fn product(rate: DuckRate, counts: &[u64], count: usize, ducking: usize, n: u64) -> f64
-    requires { ⌜ (2048 ≤ length (now counts)) × (count ≤ 1024) × (ducking ≤ count) ⌝ }
-    ensures { λ g. ⌜ g ≡ timesUntil rate n one (drop ducking (kicksIn count (now (counts .entry)))) (drop ducking (marksIn count (now (counts .entry)))) ⌝ }
+// gain, times the gains from a kick on.
+fn product(rate: DuckRate, counts: &[u64], count: usize, from: usize, n: u64, gain: f64) -> f64
+    requires { ⌜ (2048 ≤ length (now counts)) × (count ≤ 1024) × (from ≤ count) ⌝ }
+    ensures { λ g. ⌜ g ≡ timesUntil rate n gain (drop from (kicksIn count (now (counts .entry)))) (drop from (marksIn count (now (counts .entry)))) ⌝ }
 {
-    let mut gain = 1.0;
-    let mut c = ducking;
+    let mut gain = gain;
+    let mut c = from;
     while c < count {
         let kick = counts[c];
         if n < kick {
@@ -202,23 +195,80 @@ fn product(rate: DuckRate, counts: &[u64], count: usize, ducking: usize, n: u64)
     gain
 }
 
-// ---- one sample, and a block of them in place
+// The products at n and at n + 1, side by side: a product's multiplications wait for each other, those of two do not.
+fn products(rate: DuckRate, counts: &[u64], count: usize, from: usize, n: u64) -> Gains
+    requires { ⌜ (2048 ≤ length (now counts)) × (count ≤ 1024) × (from ≤ count) × (n + 1 < 4294967296) ⌝ }
+    ensures { λ g. ⌜ g .at ≡ timesUntil rate n one (drop from (kicksIn count (now (counts .entry)))) (drop from (marksIn count (now (counts .entry)))) ⌝ }
+    ensures { λ g. ⌜ g .after ≡ timesUntil rate (n + 1) one (drop from (kicksIn count (now (counts .entry)))) (drop from (marksIn count (now (counts .entry)))) ⌝ }
+{
+    let mut gains = Gains {
+        at: 1.0,
+        after: 1.0,
+    };
+    let mut c = from;
+    while c < count {
+        let kick = counts[c];
+        if n < kick {
+            return Gains {
+                at: gains.at,
+                after: product(rate, counts, count, c, n + 1, gains.after),
+            };
+        }
+        gains = times_gains(rate, gains, n - kick, counts[KICKS + c]);
+        c += 1;
+    }
+    gains
+}
+
+// ---- a sample, two samples, and a block of them in place
+
+// The duck at n but for its gain.
+fn moved(rate: DuckRate, duck: Duck, counts: &mut [u64], n: u64, drums: bool) -> Duck
+    requires { ⌜ Within (duckOn duck (now counts)) ⌝ }
+    ensures { λ r. ⌜ duckOn r (now (counts .exit)) ≡ gainOn rate drums n (duckOn duck (now (counts .entry))) .next ⌝ }
+    ensures { λ r. ⌜ Within (duckOn r (now (counts .exit))) ⌝ }
+{
+    let count = duck.count;
+    let reached = mark(counts, count, duck.reached, n, drums);
+    let ducking = advance(rate, counts, count, duck.ducking, n);
+    Duck {
+        count,
+        reached,
+        ducking,
+    }
+}
 
 pub fn duck_step(rate: DuckRate, duck: Duck, counts: &mut [u64], n: u64, drums: bool) -> Ducked
     requires { ⌜ Within (duckOn duck (now counts)) ⌝ }
     ensures { λ r. ⌜ gave (r .duck) (now (counts .exit)) (r .gain) ≡ gainOn rate drums n (duckOn duck (now (counts .entry))) ⌝ }
 {
-    let count = duck.count;
-    let reached = mark(counts, count, duck.reached, n, drums);
-    let ducking = advance(rate, counts, count, duck.ducking, n);
-    let gain = product(rate, counts, count, ducking, n);
-    Ducked {
-        duck: Duck {
-            count,
-            reached,
-            ducking,
+    let duck = moved(rate, duck, counts, n, drums);
+    let gain = product(rate, counts, duck.count, duck.ducking, n, 1.0);
+    Ducked { duck, gain }
+}
+
+// The samples n and n + 1. The second's gain is found anew if a cursor moves between them.
+fn duck_two(rate: DuckRate, duck: Duck, counts: &mut [u64], n: u64, drums: bool) -> DuckedTwo
+    requires { ⌜ Within (duckOn duck (now counts)) ⌝ }
+    requires { ⌜ n + 1 < 4294967296 ⌝ }
+    ensures { λ r. ⌜ r .gains .at ≡ gainOn rate drums n (duckOn duck (now (counts .entry))) .out ⌝ }
+    ensures { λ r. ⌜ gave (r .duck) (now (counts .exit)) (r .gains .after) ≡ gainOn rate drums (n + 1) (gainOn rate drums n (duckOn duck (now (counts .entry))) .next) ⌝ }
+{
+    let first = moved(rate, duck, counts, n, drums);
+    let gains = products(rate, counts, first.count, first.ducking, n);
+    let duck = moved(rate, first, counts, n + 1, drums);
+    if duck.reached == first.reached {
+        if duck.ducking == first.ducking {
+            return DuckedTwo { duck, gains };
+        }
+    }
+    let after = product(rate, counts, duck.count, duck.ducking, n + 1, 1.0);
+    DuckedTwo {
+        duck,
+        gains: Gains {
+            at: gains.at,
+            after,
         },
-        gain,
     }
 }
 
@@ -237,11 +287,17 @@ pub fn duck_block(
 {
     let mut duck = duck;
     let mut i: usize = 0;
-    while i < block.len() {
+    while i + 1 < block.len() {
+        let g = duck_two(rate, duck, counts, n + i as u64, drums);
+        block[i] = block[i] * g.gains.at;
+        block[i + 1] = block[i + 1] * g.gains.after;
+        duck = g.duck;
+        i += 2;
+    }
+    if i < block.len() {
         let g = duck_step(rate, duck, counts, n + i as u64, drums);
         block[i] = block[i] * g.gain;
         duck = g.duck;
-        i += 1;
     }
     duck
 }

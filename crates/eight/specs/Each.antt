@@ -1,9 +1,11 @@
 -- Eight numbers at a time: a function of each. Definitions only.
 use mathlib.Core.Bool.{cond}
 use mathlib.Core.List.{List, [], _∷_}
-use Prim.Native.Nat.{ℕ, _+_}
+use mathlib.Core.Path.{_≡_}
+use Prim.Native.Nat.{ℕ, _+_, _-_, _<_}
+use lib.Dec.{ltb}
 use lib.ListN.{getD, set}
-use lib.Ieee.{Float, le, neg}
+use lib.Ieee.{Float, nan, le, neg}
 use Rattle.casts.specs.Arithmetic.{_⊗_, _⊘_, nought, one}
 use Rattle.elementary.specs.Elementary.{TANH, twenty}
 use Rattle.eight.specs.declared.Eight.{Eight}
@@ -26,6 +28,10 @@ eightOf f = record { a = f 0; b = f 1; c = f 2; d = f 3; e = f 4; f = f 5; g = f
 abbrev pub listed : Eight → List Float
 listed x = x .a ∷ x .b ∷ x .c ∷ x .d ∷ x .e ∷ x .f ∷ x .g ∷ x .h ∷ []
 
+-- l begins with the values at 0 to count - 1
+abbrev pub Laid : ℕ → (ℕ → Float) → List Float → Type 0
+Laid count f l = (k : ℕ) → k < count → getD l k nan ≡ f k
+
 -- q, but 1 from 20 up and -1 from -20 down
 abbrev pub heldAt : Float → Float → Float
 heldAt v q = cond (le twenty v) one (cond (le v (neg twenty)) (neg one) q)
@@ -42,3 +48,7 @@ eightAt l i =
 -- with the eight stored from i on, nothing past the end
 abbrev pub putEight : List Float → ℕ → Eight → List Float
 putEight l i x = set (set (set (set (set (set (set (set l (i + 0) (x .a)) (i + 1) (x .b)) (i + 2) (x .c)) (i + 3) (x .d)) (i + 4) (x .e)) (i + 5) (x .f)) (i + 6) (x .g)) (i + 7) (x .h)
+
+-- where the group ends that begins at i, of len numbers: eight on, or at the end
+abbrev pub groupEnd : ℕ → ℕ → ℕ
+groupEnd i len = cond (ltb (len - i) 8) len (i + 8)

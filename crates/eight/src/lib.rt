@@ -6,7 +6,7 @@ ghost use Prim.Native.Nat.{_+_, _<_, _≤_};
 ghost use lib.ListN.{length, getD, set};
 ghost use Rattle.casts.specs.Arithmetic.{_⊕_, _⊖_, _⊗_, _⊘_, nought, one};
 ghost use Rattle.elementary.specs.Elementary.{TANH, SIN, COS, turn};
-ghost use Rattle.eight.specs.Each.{all, each, each2, listed, heldAt, eightAt, putEight, saturatedOver};
+ghost use Rattle.eight.specs.Each.{all, each, each2, listed, heldAt, eightAt, putEight, saturatedOver, groupEnd};
 
 pub struct Eight {
     pub a: f64,
@@ -254,4 +254,15 @@ pub fn saturate_over(s: &mut [f64], drive: f64, top: f64)
         put_eight(s, i, y);
         i += 8;
     }
+}
+
+// Where the group ends that begins at i: eight on, or at the end.
+pub fn group_end(i: usize, len: usize) -> usize
+    requires { ⌜ i < len ⌝ }
+    ensures { λ r. ⌜ (i < r) × (r ≤ len) × (r ≤ i + 8) × (r ≡ groupEnd i len) ⌝ }
+{
+    if len - i < 8 {
+        return len;
+    }
+    i + 8
 }

@@ -240,7 +240,7 @@ pub extern "C" fn goqhari_test_grade_drive(night: f32, day: f32, t: f64) -> f64 
 
 #[no_mangle]
 pub extern "C" fn goqhari_test_sidechain(since: u64) -> f64 {
-    duck::sidechain_gain(TapeRate::cd().duck, since)
+    sidechain::sidechain_gain(TapeRate::cd().duck, since)
 }
 
 // Keeps the kicks in a duck's part; answers how many.

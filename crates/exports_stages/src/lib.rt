@@ -9,6 +9,7 @@ ghost use lib.Dec.{T};
 ghost use Rattle.rate.specs.Ceiling.{ceilingRate};
 ghost use Rattle.master.specs.Kept.{ceilingOn};
 ghost use Rattle.master.specs.WellFormed.{wellFormed};
+use automation::Tone;
 use duck::Duck;
 use master::Ceiling;
 use plate::Plate;
@@ -111,10 +112,9 @@ fn lane_fits(ring: usize, counts: usize, duck: Duck, n: u64, len: usize) -> bool
 }
 
 // A block of one tuning, if all fits.
-fn tuned(
+fn passed(
     setup: TapeSetup,
     rain: Ramp,
-    drive: f64,
     tape: Tape,
     ring: &mut [f64],
     counts: &mut [u64],
@@ -125,30 +125,31 @@ fn tuned(
     let duck = tape.duck;
     if lane_fits(ring.len(), counts.len(), duck, n, block.len()) {
         let rate = TapeRate::cd();
-        return tape::tape_block(
-            rate,
-            setup,
-            rain,
-            drive,
-            tape,
-            ring,
-            counts,
-            block,
-            n,
-            drums,
-        );
+        return tape::tape_block(rate, setup, rain, tape, ring, counts, block, n, drums);
     }
     tape
 }
 
-fn retuned(tape: Tape, corner: f32) -> Tape {
-    let mut tape = tape;
-    let tone = tape.tone.retuned(corner, TapeRate::HZ);
-    tape.tone = tone;
-    tape
+// The lane tuned for the sample at n, if there is one.
+fn tuned(own: Tone, daylight: Ramp, points: &[u64], values: &[f64], tape: Tape, n: u64) -> Tape
+    requires { ⌜ length (now points) ≤ length (now values) ⌝ }
+{
+    if LAST <= n {
+        return tape;
+    }
+    let rate = TapeRate::cd();
+    tape::tuned(rate, own, daylight, points, values, tape, n)
 }
 
-// A run, piece by piece.
+// For how many samples from n on the lane is tuned.
+fn lasting(tape: Tape, n: u64) -> u64 {
+    if tape.until < n {
+        return 0;
+    }
+    tape.until - n
+}
+
+// A run, tuning by tuning.
 fn run(
     setup: TapeSetup,
     points: &[u64],
@@ -168,17 +169,17 @@ fn run(
     let mut tape = tape;
     let mut at: usize = 0;
     while at < block.len() {
-        let piece = automation::piece_at(own, daylight, points, values, n + at as u64);
-        let end = piece_end(at, piece.len, block.len());
-        tape = tuned(
+        let m = n + at as u64;
+        tape = tuned(own, daylight, points, values, tape, m);
+        let end = piece_end(at, lasting(tape, m), block.len());
+        tape = passed(
             setup,
             rain,
-            piece.tuning.drive,
-            retuned(tape, piece.tuning.corner),
+            tape,
             ring,
             counts,
             &mut block[at..end],
-            n + at as u64,
+            m,
             drums,
         );
         at = end;
@@ -191,7 +192,7 @@ fn short_of(b: u64) -> f64 {
 }
 
 fn latched(lane: Lane, n: u64, controls: u64, grading: u64, darkening: u64) -> Lane {
-    let tape = lane.tape;
+    let tape = tape::untuned(lane.tape);
     let daylight = lane.daylight
         .toward(n, short_of(controls / 4294967296), grading);
     let rain = lane.rain.toward(n, short_of(controls), darkening);
@@ -336,7 +337,7 @@ pub extern "C" fn goqhari_test_tape(
     }
     silence(ring);
     let duck = Duck::new(kicks, counts);
-    let setup = setup::setup_of(f32s, f64s, flags);
+    let setup = setup::tape_setup_of(f32s, f64s, flags);
     let lane = fresh_lane(f32s, duck.count);
     let after = all_called(setup, points, values, lane, ring, counts, samples, calls);
     tape::at_rest(after.tape, ring)

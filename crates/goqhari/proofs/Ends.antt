@@ -17,23 +17,24 @@ use Rattle.strip.specs.declared.Rested.{Rested}
 use Rattle.strip.specs.Calls.{OpenDone, RunDone, state, openCall, runCall, latchCall, restCall}
 use Rattle.part.specs.Pieces.{opened, went}
 use Rattle.packing.specs.declared.Unpacked as unpack
-use Rattle.packing.specs.Packing.{unpacked}
-use Rattle.goqhari.specs.Library.{Back, back, openedBack, outcomeBack, declinedBy, setupOf, opening, openDone, libraryOpen, drumming, running, runDone, runFrom, libraryRun, latchFrom, libraryLatch, Resting, resting, restedBack, restFrom, libraryRest}
+use Rattle.packing.specs.Packing.{numbersLong, wordsLong, unpacked}
+use Rattle.setup.specs.Setup.{setupOf}
+use Rattle.goqhari.specs.Library.{Back, back, openedBack, outcomeBack, declinedBy, opening, openDone, libraryOpen, drumming, running, runDone, runFrom, libraryRun, latchFrom, libraryLatch, Resting, resting, restedBack, restFrom, libraryRest}
 
 -- ---- open
 module _ (r : Rate) (singles doubles : List Float) (flags : ℕ) (l : Lists) (ns : List Float) (ws : List ℕ) (store : List Float) (counts : List ℕ) where
-  pub open-few-numbers : length ns < 85 → opening (back 1 ns ws) store counts ≡ libraryOpen r singles doubles flags l ns ws store counts
+  pub open-few-numbers : length ns < numbersLong → opening (back 1 ns ws) store counts ≡ libraryOpen r singles doubles flags l ns ws store counts
   unfolding libraryOpen
-  open-few-numbers h = rw (lt-leb 85 (length ns) h)
+  open-few-numbers h = rw (lt-leb numbersLong (length ns) h)
 
-  pub open-few-words : 85 ≤ length ns → length ws < 18 → opening (back 1 ns ws) store counts ≡ libraryOpen r singles doubles flags l ns ws store counts
+  pub open-few-words : numbersLong ≤ length ns → length ws < wordsLong → opening (back 1 ns ws) store counts ≡ libraryOpen r singles doubles flags l ns ws store counts
   unfolding libraryOpen
-  open-few-words g h = rw (le-leb 85 (length ns) g, lt-leb 18 (length ws) h)
+  open-few-words g h = rw (le-leb numbersLong (length ns) g, lt-leb wordsLong (length ws) h)
 
-  module _ (g : 85 ≤ length ns) (h : 18 ≤ length ws) where
+  module _ (g : numbersLong ≤ length ns) (h : wordsLong ≤ length ws) where
     pub open-flags : (k : ℕ) → 15 < flags → k ≡ declinedBy r 2 store counts → opening (back k ns ws) store counts ≡ libraryOpen r singles doubles flags l ns ws store counts
     unfolding libraryOpen
-    open-flags k f e = rw (le-leb 85 (length ns) g, le-leb 18 (length ws) h, lt-leb flags 15 f) (ap (λ (j : ℕ). opening (back j ns ws) store counts) e)
+    open-flags k f e = rw (le-leb numbersLong (length ns) g, le-leb wordsLong (length ws) h, lt-leb flags 15 f) (ap (λ (j : ℕ). opening (back j ns ws) store counts) e)
 
     pub open-done : (s : Setup) → flags ≤ 15 → s ≡ setupOf singles doubles flags → (o : Opened) (k : ℕ) (ns' : List Float) (ws' : List ℕ) (store' : List Float) (counts' : List ℕ)
         → opened o store' counts' ≡ openCall r s l store counts
@@ -41,7 +42,7 @@ module _ (r : Rate) (singles doubles : List Float) (flags : ℕ) (l : Lists) (ns
         → opening (back k ns' ws') store' counts' ≡ libraryOpen r singles doubles flags l ns ws store counts
     unfolding libraryOpen openDone
     open-done s f u o k ns' ws' store' counts' e w =
-        rw (le-leb 85 (length ns) g, le-leb 18 (length ws) h, le-leb flags 15 f)
+        rw (le-leb numbersLong (length ns) g, le-leb wordsLong (length ws) h, le-leb flags 15 f)
         (ap (λ (b : Back). opening b store' counts') w ∙ ap (λ (q : OpenDone). openDone q ns ws) e ∙ ap (λ (t : Setup). openDone (openCall r t l store counts) ns ws) u)
 
 -- ---- run

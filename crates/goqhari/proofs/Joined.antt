@@ -28,11 +28,11 @@ use Rattle.strip.specs.Calls.{State, state, stepOn, ranOn, heardOn, first, rest
 use Rattle.strip.specs.Promise.{Call, run, move, ask, Answer, stripOf, runAnswer, moveAnswer, restAnswer, answerTo, after, through, Joined}
 use Rattle.strip.proofs.Joined.{joined}
 use Rattle.packing.specs.declared.Unpacked as unpack
-use Rattle.packing.specs.Packing.{flagged, packedNumbers, packedWords, unpacked}
+use Rattle.packing.specs.Packing.{numbersLong, wordsLong, flagged, packedNumbers, packedWords, unpacked}
 use Rattle.packing.specs.Inverse.{Single, ToneSingle, PadSingle, Singles}
 use Rattle.packing.proofs.Inverse.{inverse, flag-is}
-use Rattle.setup.specs.Setup.{numberAt, toneOf, padOf, tapeSetupOf}
-use Rattle.goqhari.specs.Library.{Back, back, packedBack, openedBack, outcomeBack, declinedBy, setupOf, Opening, opening, openDone, libraryOpen, drumming, running, runDone, runFrom, libraryRun, latchFrom, libraryLatch, restedBack, restFrom, libraryRest}
+use Rattle.setup.specs.Setup.{numberAt, setupOf, toneOf, padOf, tapeSetupOf}
+use Rattle.goqhari.specs.Library.{Back, back, packedBack, openedBack, outcomeBack, declinedBy, Opening, opening, openDone, libraryOpen, drumming, running, runDone, runFrom, libraryRun, latchFrom, libraryLatch, restedBack, restFrom, libraryRest}
 use Rattle.goqhari.specs.Promise.{Lent, lent, runSays, latchSays, restSays, answerOf, runLeaves, leftBy, answersOf, openLeaves, LibraryJoined}
 
 -- ---- what an outcome is: a refusal's number is not 0 and hands the strip back; else the setup is kept
@@ -271,7 +271,7 @@ pub library-joined : (r : Rate) → RateUsable r → LibraryJoined r
 unfolding LibraryJoined libraryOpen Joined
 library-joined r u singles doubles flags l ns ws store counts f z cs =
     let s = setupOf singles doubles flags in
-    let o = opens-by r s l ns ws store counts (leb 85 (length ns) && leb 18 (length ws)) (leb flags 15) z in
+    let o = opens-by r s l ns ws store counts (leb numbersLong (length ns) && leb wordsLong (length ws)) (leb flags 15) z in
     let h = setup-singles singles doubles flags f (o .strip) (o .setup) in
     ap (λ (m : Lent). answersOf r m cs) (o .memory)
     ∙ answers-are r _ (state (o .strip) (openCall r s l store counts .store) (openCall r s l store counts .counts)) (record { strip = written-back (o .strip) h ns ws; singles = h; store = refl; counts = refl }) cs

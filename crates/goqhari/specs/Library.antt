@@ -8,7 +8,6 @@ use lib.ListN.{length, set}
 use lib.Ieee.{Float}
 use Rattle.rate.specs.declared.Rate.{Rate}
 use Rattle.tape.specs.Tape.{Lists}
-use Rattle.strip.specs.declared.Setup.{Setup}
 use Rattle.strip.specs.declared.Controls.{Controls}
 use Rattle.strip.specs.declared.Strip as strips
 use Rattle.strip.specs.declared.Opened as opened
@@ -22,8 +21,8 @@ use Rattle.strip.specs.Calls.{OpenDone, RunDone, state, openCall, runCall, latc
 use Rattle.part.specs.Pieces.{over}
 use Rattle.packing.specs.declared.Unpacked as unpack
 use Rattle.packing.specs.declared.Unpacked.{Unpacked}
-use Rattle.packing.specs.Packing.{flagged, packedNumbers, packedWords, unpacked}
-use Rattle.setup.specs.Setup.{numberAt, tapeSetupOf}
+use Rattle.packing.specs.Packing.{numbersLong, wordsLong, flagged, packedNumbers, packedWords, unpacked}
+use Rattle.setup.specs.Setup.{setupOf}
 
 -- an answer, with the packed strip as the call leaves it
 pub record Back : Type 0 where
@@ -53,9 +52,6 @@ declinedBy r k store counts = cond (longEnough r store counts) k 1
 
 -- ---- open
 
-unfoldable pub setupOf : List Float → List Float → ℕ → Setup
-setupOf singles doubles flags = record { tape = tapeSetupOf singles doubles flags; daylight = numberAt singles 6; rain = numberAt singles 7; send = numberAt doubles 3 }
-
 pub record Opening : Type 0 where
   pub back : Back
   pub store : List Float
@@ -70,7 +66,7 @@ openDone o ns ws = opening (openedBack (o .answer) ns ws) (o .store) (o .counts)
 -- 1 where the packed strip has no room, 2 where a flag is set that means nothing
 unfoldable pub libraryOpen : Rate → List Float → List Float → ℕ → Lists → List Float → List ℕ → List Float → List ℕ → Opening
 libraryOpen r singles doubles flags l ns ws store counts =
-    cond (leb 85 (length ns) && leb 18 (length ws))
+    cond (leb numbersLong (length ns) && leb wordsLong (length ws))
     (cond (leb flags 15) (openDone (openCall r (setupOf singles doubles flags) l store counts) ns ws) (opening (back (declinedBy r 2 store counts) ns ws) store counts))
     (opening (back 1 ns ws) store counts)
 

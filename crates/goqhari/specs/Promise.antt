@@ -12,8 +12,8 @@ use Rattle.strip.specs.Machine.{fresh}
 use Rattle.strip.specs.Promise.{Call, run, move, ask, Answer, ran, moved, rests, declined, expected}
 use Rattle.packing.specs.Packing.{flagged, flagOf}
 use Rattle.packing.specs.Inverse.{Single}
-use Rattle.setup.specs.Setup.{numberAt}
-use Rattle.goqhari.specs.Library.{Back, Opening, Running, Resting, setupOf, libraryOpen, libraryRun, libraryLatch, libraryRest}
+use Rattle.setup.specs.Setup.{numberAt, setupOf}
+use Rattle.goqhari.specs.Library.{Back, Opening, Running, Resting, libraryOpen, libraryRun, libraryLatch, libraryRest}
 
 -- the memory of a strip
 pub record Lent : Type 0 where

@@ -6,14 +6,14 @@ ghost use Prim.Native.Nat.{_≤_};
 ghost use lib.ListN.{length};
 ghost use Rattle.rate.specs.Rate.{rateOf};
 ghost use Rattle.refusals.specs.Pieces.{listsOf};
-ghost use Rattle.goqhari.specs.Library.{back, packedBack, openedBack, outcomeBack, declinedBy, setupOf, opening, libraryOpen, drumming, running, libraryRun, controls, libraryLatch, resting, restedBack, libraryRest};
+ghost use Rattle.packing.specs.Packing.{numbersLong, wordsLong};
+ghost use Rattle.goqhari.specs.Library.{back, packedBack, openedBack, outcomeBack, declinedBy, opening, libraryOpen, drumming, running, libraryRun, controls, libraryLatch, resting, restedBack, libraryRest};
 use packing::Unpacked;
 use rate::Rate;
 use strip::Controls;
 use strip::Opened;
 use strip::Outcome;
 use strip::Rested;
-use strip::Setup;
 use strip::Strip;
 
 // ---- answers
@@ -30,7 +30,7 @@ fn declined(number: u64, store: &[f64], counts: &[u64]) -> u64
 
 // Writes the strip over the packed one, and answers 0.
 fn kept(strip: Strip, numbers: &mut [f64], words: &mut [u64]) -> u64
-    requires { ⌜ (85 ≤ length (now numbers)) × (18 ≤ length (now words)) ⌝ }
+    requires { ⌜ (numbersLong ≤ length (now numbers)) × (wordsLong ≤ length (now words)) ⌝ }
     ensures { λ r. ⌜ back r (now (numbers .exit)) (now (words .exit)) ≡ packedBack strip (now (numbers .entry)) (now (words .entry)) ⌝ }
 {
     let packed = packing::numbers_of(strip);
@@ -41,7 +41,7 @@ fn kept(strip: Strip, numbers: &mut [f64], words: &mut [u64]) -> u64
 }
 
 fn answered(outcome: Outcome, numbers: &mut [f64], words: &mut [u64]) -> u64
-    requires { ⌜ (85 ≤ length (now numbers)) × (18 ≤ length (now words)) ⌝ }
+    requires { ⌜ (numbersLong ≤ length (now numbers)) × (wordsLong ≤ length (now words)) ⌝ }
     ensures { λ r. ⌜ back r (now (numbers .exit)) (now (words .exit)) ≡ outcomeBack outcome (now (numbers .entry)) (now (words .entry)) ⌝ }
 {
     match outcome {
@@ -51,7 +51,7 @@ fn answered(outcome: Outcome, numbers: &mut [f64], words: &mut [u64]) -> u64
 }
 
 fn opened(answer: Opened, numbers: &mut [f64], words: &mut [u64]) -> u64
-    requires { ⌜ (85 ≤ length (now numbers)) × (18 ≤ length (now words)) ⌝ }
+    requires { ⌜ (numbersLong ≤ length (now numbers)) × (wordsLong ≤ length (now words)) ⌝ }
     ensures { λ r. ⌜ back r (now (numbers .exit)) (now (words .exit)) ≡ openedBack answer (now (numbers .entry)) (now (words .entry)) ⌝ }
 {
     match answer {
@@ -73,18 +73,6 @@ fn told(answer: Rested, rests: &mut [u64; 1]) -> u64
 }
 
 // ---- open
-
-fn setup_of(singles: &[f32; 8], doubles: &[f64; 4], flags: u64) -> Setup
-    ensures { λ r. ⌜ r ≡ setupOf (now (singles .entry)) (now (doubles .entry)) flags ⌝ }
-{
-    let tape = setup::setup_of(singles, doubles, flags);
-    Setup {
-        tape,
-        daylight: singles[6],
-        rain: singles[7],
-        send: doubles[3],
-    }
-}
 
 #[no_mangle]
 pub extern "C" fn goqhari_open(
@@ -110,7 +98,7 @@ pub extern "C" fn goqhari_open(
     if 15 < flags {
         return declined(2, store, counts);
     }
-    let setup = setup_of(singles, doubles, flags);
+    let setup = setup::setup_of(singles, doubles, flags);
     let answer = part::open(setup, positions, values, kicks, store, counts);
     opened(answer, numbers, words)
 }

@@ -14,11 +14,12 @@ use Rattle.ramp.specs.declared.Shape.{Shape}
 use Rattle.ramp.specs.declared.Shape.the-variants.{Linear, Db}
 use Rattle.automation.specs.declared.Tone.{Tone}
 use Rattle.automation.specs.declared.Tone.the-variants.{Fixed, Graded}
-use Rattle.tape.specs.declared.Pad.{Pad}
-use Rattle.tape.specs.declared.Pad.the-variants.{Without, Swell}
+use Rattle.oscillators.specs.declared.Pad.{Pad}
+use Rattle.oscillators.specs.declared.Pad.the-variants.{Without, Swell}
 use Rattle.strip.specs.declared.Strip.{Strip}
 use Rattle.packing.specs.declared.Unpacked as unpack
-use Rattle.packing.specs.Packing.{toneNumbers, toneTag, padNumbers, padTag, shapeTag, flagged, packedNumbers, packedWords, numberAt, wordAt, isShort, isNought, bothShort, bothNought, toneFits, padFits, shortsFit, wordsFit, unpackable, toneAt, padAt, shapeOf, flagOf, sectionFrom, lowpassFrom, onePoleFrom, rampFrom, setupFrom, tapeFrom, plateFrom, ceilingFrom, stripFrom, unpacked}
+use Rattle.setup.specs.Setup.{numberAt}
+use Rattle.packing.specs.Packing.{numbersLong, wordsLong, toneNumbers, toneTag, padNumbers, padTag, shapeTag, flagged, packedNumbers, packedWords, wordAt, isShort, isNought, bothShort, bothNought, toneFits, padFits, shortsFit, wordsFit, unpackable, toneAt, padAt, shapeOf, flagOf, sectionFrom, lowpassFrom, onePoleFrom, rampFrom, setupFrom, tapeFrom, plateFrom, ceilingFrom, stripFrom, unpacked}
 use Rattle.packing.specs.Inverse.{ToneSingle, PadSingle, Singles, Inverse}
 use Rattle.packing.proofs.Floats.{narrowed-own, short-is, nought-is, short-back, nought-back}
 use Rattle.packing.proofs.Spread.{front, behind, numbers-front, numbers-length, words-length, elements, elements-are}
@@ -100,10 +101,10 @@ module _ (s : Strip) (h : Singles s) (ns : List Float) (ws : List ℕ) where
   all-fit : unpackable (front t p (behind s ++ ns)) (packedWords s ++ ws) ≡ true
   unfolding unpackable packedWords
   all-fit =
-      let l : 85 ≤ length (packedNumbers s ++ ns) = rw (length-append (packedNumbers s) ns, numbers-length s) (omega arith) in
-      let w : 18 ≤ length (packedWords s ++ ws) = rw (length-append (packedWords s) ws, words-length s) (omega arith) in
-      rw (le-leb 85 _ (subst (λ (q : List Float). 85 ≤ length q) (numbers-front s ns) l))
-      (rw (le-leb 18 _ w) (rw shorts-fit (rw (tone-fits t p (behind s ++ ns) (h .tone)) (rw (pad-fits t p (behind s ++ ns) (h .pad)) (rw words-fit)))))
+      let l : numbersLong ≤ length (packedNumbers s ++ ns) = rw (length-append (packedNumbers s) ns, numbers-length s) (omega arith) in
+      let w : wordsLong ≤ length (packedWords s ++ ws) = rw (length-append (packedWords s) ws, words-length s) (omega arith) in
+      rw (le-leb numbersLong _ (subst (λ (q : List Float). numbersLong ≤ length q) (numbers-front s ns) l))
+      (rw (le-leb wordsLong _ w) (rw shorts-fit (rw (tone-fits t p (behind s ++ ns) (h .tone)) (rw (pad-fits t p (behind s ++ ns) (h .pad)) (rw words-fit)))))
 
   front-back : unpacked (front t p (behind s ++ ns)) (packedWords s ++ ws) ≡ unpack.the-variants.Strip s
   unfolding unpacked
@@ -174,15 +175,15 @@ module _ (ns : List Float) (f : (k : ℕ) → T (fits binary64 (numberAt ns k)))
       )
 
   module _ (ws : List ℕ) (r : Reads ns ws) where
-    numbers-back : packedNumbers (stripFrom ns ws) ≡ take 85 ns
+    numbers-back : packedNumbers (stripFrom ns ws) ≡ take numbersLong ns
     unfolding packedNumbers stripFrom setupFrom tapeFrom plateFrom ceilingFrom rampFrom lowpassFrom sectionFrom onePoleFrom elements
     numbers-back =
         let b = shorts-back (r .shorts) in
         let t = tone-back (wordAt ws 1) (b .0) (r .tone) in
         let p = pad-back (wordAt ws 2) (r .pad) in
-        rw (t .0) (rw (p .0) (rw (b .1) (rw (b .2) (elements-are nan ns 0 85 (r .long)))))
+        rw (t .0) (rw (p .0) (rw (b .1) (rw (b .2) (elements-are nan ns 0 numbersLong (r .long)))))
 
-    words-back : packedWords (stripFrom ns ws) ≡ take 18 ws
+    words-back : packedWords (stripFrom ns ws) ≡ take wordsLong ws
     unfolding packedWords stripFrom setupFrom tapeFrom ceilingFrom rampFrom elements wordsFit
     words-back =
         let b = shorts-back (r .shorts) in
@@ -196,10 +197,10 @@ module _ (ns : List Float) (f : (k : ℕ) → T (fits binary64 (numberAt ns k)))
         let k = flag-back (wordAt ws 4) (and-l (leb (wordAt ws 4) 1) w8 u4) in
         let h = shape-back (wordAt ws 8) (and-l (leb (wordAt ws 8) 1) (leb (wordAt ws 11) 1) u8) in
         let g = shape-back (wordAt ws 11) (and-r (leb (wordAt ws 8) 1) (leb (wordAt ws 11) 1) u8) in
-        rw (t .1) (rw (p .1) (rw d (rw k (rw h (rw g (elements-are 0 ws 0 18 (r .wide)))))))
+        rw (t .1) (rw (p .1) (rw d (rw k (rw h (rw g (elements-are 0 ws 0 wordsLong (r .wide)))))))
 
 same-back : (s : Strip) (ns : List Float) (ws : List ℕ) → ((k : ℕ) → T (fits binary64 (numberAt ns k)))
-    → unpacked ns ws ≡ unpack.the-variants.Strip s → (packedNumbers s ≡ take 85 ns) × (packedWords s ≡ take 18 ws)
+    → unpacked ns ws ≡ unpack.the-variants.Strip s → (packedNumbers s ≡ take numbersLong ns) × (packedWords s ≡ take wordsLong ws)
 same-back s ns ws f e =
     let r = read ns ws s e in
     (ap packedNumbers (r .is) ∙ numbers-back ns f ws (r .reads), ap packedWords (r .is) ∙ words-back ns f ws (r .reads))

@@ -10,14 +10,14 @@ use lib.Ieee.{Float}
 use lib.Ieee.Fits.{and-l, and-r}
 use Rattle.strip.specs.declared.Strip.{Strip}
 use Rattle.packing.specs.declared.Unpacked as unpack
-use Rattle.packing.specs.Packing.{wordAt, toneFits, padFits, shortsFit, wordsFit, unpackable, stripFrom, unpacked}
+use Rattle.packing.specs.Packing.{numbersLong, wordsLong, wordAt, toneFits, padFits, shortsFit, wordsFit, unpackable, stripFrom, unpacked}
 
 pub holds : {b : Bool} → b ≡ true → T b
 holds e = subst T (sym e) tt
 
 pub record Reads (ns : List Float) (ws : List ℕ) : Type 0 where
-  pub long : 85 ≤ length ns
-  pub wide : 18 ≤ length ws
+  pub long : numbersLong ≤ length ns
+  pub wide : wordsLong ≤ length ws
   pub shorts : T (shortsFit ns)
   pub tone : T (toneFits ns (wordAt ws 1))
   pub pad : T (padFits ns (wordAt ws 2))
@@ -29,14 +29,14 @@ reads ns ws t =
     let pads = padFits ns (wordAt ws 2) && wordsFit ws in
     let tones = toneFits ns (wordAt ws 1) && pads in
     let shorts = shortsFit ns && tones in
-    let wide = leb 18 (length ws) && shorts in
-    let t1 : T wide = and-r (leb 85 (length ns)) wide t in
-    let t2 : T shorts = and-r (leb 18 (length ws)) shorts t1 in
+    let wide = leb wordsLong (length ws) && shorts in
+    let t1 : T wide = and-r (leb numbersLong (length ns)) wide t in
+    let t2 : T shorts = and-r (leb wordsLong (length ws)) shorts t1 in
     let t3 : T tones = and-r (shortsFit ns) tones t2 in
     let t4 : T pads = and-r (toneFits ns (wordAt ws 1)) pads t3 in
     record {
-      long = leb→le 85 (length ns) (and-l (leb 85 (length ns)) wide t);
-      wide = leb→le 18 (length ws) (and-l (leb 18 (length ws)) shorts t1);
+      long = leb→le numbersLong (length ns) (and-l (leb numbersLong (length ns)) wide t);
+      wide = leb→le wordsLong (length ws) (and-l (leb wordsLong (length ws)) shorts t1);
       shorts = and-l (shortsFit ns) tones t2;
       tone = and-l (toneFits ns (wordAt ws 1)) pads t3;
       pad = and-l (padFits ns (wordAt ws 2)) (wordsFit ws) t4;

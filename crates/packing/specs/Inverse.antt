@@ -7,11 +7,12 @@ use lib.ListN.{take}
 use lib.Ieee.{Float, binary32, binary64, fits}
 use Rattle.automation.specs.declared.Tone.{Tone}
 use Rattle.automation.specs.declared.Tone.the-variants.{Fixed, Graded}
-use Rattle.tape.specs.declared.Pad.{Pad}
-use Rattle.tape.specs.declared.Pad.the-variants.{Without, Swell}
+use Rattle.oscillators.specs.declared.Pad.{Pad}
+use Rattle.oscillators.specs.declared.Pad.the-variants.{Without, Swell}
 use Rattle.strip.specs.declared.Strip.{Strip}
 use Rattle.packing.specs.declared.Unpacked as unpack
-use Rattle.packing.specs.Packing.{numberAt, packedNumbers, packedWords, unpacked}
+use Rattle.setup.specs.Setup.{numberAt}
+use Rattle.packing.specs.Packing.{numbersLong, wordsLong, packedNumbers, packedWords, unpacked}
 
 -- what the code's types say: a field of type f32 holds an f32, an element of type f64 an f64
 abbrev pub Single : Float → Type 0
@@ -34,4 +35,4 @@ pub record Singles (s : Strip) : Type 0 where
 pub record Inverse : Type 0 where
   pub back : (s : Strip) → Singles s → (ns : List Float) (ws : List ℕ) → unpacked (packedNumbers s ++ ns) (packedWords s ++ ws) ≡ unpack.the-variants.Strip s
   pub same : (s : Strip) (ns : List Float) (ws : List ℕ) → ((k : ℕ) → T (fits binary64 (numberAt ns k)))
-      → unpacked ns ws ≡ unpack.the-variants.Strip s → (packedNumbers s ≡ take 85 ns) × (packedWords s ≡ take 18 ws)
+      → unpacked ns ws ≡ unpack.the-variants.Strip s → (packedNumbers s ≡ take numbersLong ns) × (packedWords s ≡ take wordsLong ws)

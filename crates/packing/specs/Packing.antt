@@ -1,11 +1,11 @@
--- A strip as 85 numbers (f64) and 18 words (u64), each field at its own place, and read back. An f32 stands among the numbers as the f64 of its value.
+-- A strip as 87 numbers (f64) and 19 words (u64), each field at its own place, and read back. An f32 stands among the numbers as the f64 of its value.
 -- A tag or a bool is 0 or 1; a number that its tag leaves out is 0. Definitions only.
 use Prim.Native.Nat.{ℕ, _+_}
 use mathlib.Core.Bool.{Bool, true, false, cond, _&&_}
 use mathlib.Core.List.{List, [], _∷_, _++_}
 use lib.Dec.{leb, eqb}
 use lib.ListN.{length, getD}
-use lib.Ieee.{Float, nan, binary64, toBits}
+use lib.Ieee.{Float, binary64, toBits}
 use Rattle.casts.specs.Arithmetic.{nought}
 use Rattle.casts.specs.Cast.{narrowed}
 use Rattle.onepole.specs.declared.OnePole.{OnePole}
@@ -16,15 +16,22 @@ use Rattle.ramp.specs.declared.Shape.the-variants.{Linear, Db}
 use Rattle.ramp.specs.declared.Ramp.{Ramp}
 use Rattle.automation.specs.declared.Tone.{Tone}
 use Rattle.automation.specs.declared.Tone.the-variants.{Fixed, Graded}
-use Rattle.tape.specs.declared.Pad.{Pad}
-use Rattle.tape.specs.declared.Pad.the-variants.{Without, Swell}
+use Rattle.oscillators.specs.declared.Pad.{Pad}
+use Rattle.oscillators.specs.declared.Pad.the-variants.{Without, Swell}
 use Rattle.tape.specs.declared.Tape.{Tape}
 use Rattle.plate.specs.declared.Plate.{Plate}
 use Rattle.master.specs.declared.Ceiling.{Ceiling}
+use Rattle.setup.specs.Setup.{numberAt}
 use Rattle.strip.specs.declared.Setup.{Setup}
 use Rattle.strip.specs.declared.Strip as strips
 use Rattle.packing.specs.declared.Unpacked as unpack
 use Rattle.packing.specs.declared.Unpacked.{Unpacked}
+
+abbrev pub numbersLong : ℕ
+numbersLong = 87
+
+abbrev pub wordsLong : ℕ
+wordsLong = 19
 
 -- ---- packing
 
@@ -76,12 +83,12 @@ tapeNumbers t =
 abbrev pub plateNumbers : Plate → List Float
 plateNumbers p = onePoleNumbers (p .tank .left) ++ (onePoleNumbers (p .tank .right) ++ (sectionNumbers (p .left) ++ sectionNumbers (p .right)))
 
--- the whole, with the released gain at 84
+-- the whole, with the released gain at 84, and the tuning's drive and TANH at 85 and 86
 unfoldable pub packedNumbers : strips.Strip → List Float
 packedNumbers s =
     toneNumbers (s .setup .tape .tone)
     ++ (padNumbers (s .setup .tape .pad)
-    ++ (settingNumbers (s .setup) (s .daylight) (s .rain) ++ (tapeNumbers (s .tape) ++ (plateNumbers (s .plate) ++ (s .ceiling .released ∷ [])))))
+    ++ (settingNumbers (s .setup) (s .daylight) (s .rain) ++ (tapeNumbers (s .tape) ++ (plateNumbers (s .plate) ++ (s .ceiling .released ∷ s .tape .drive ∷ s .tape .top ∷ [])))))
 
 abbrev pub rampWords : Ramp → List ℕ
 rampWords r = r .start ∷ r .len ∷ shapeTag (r .shape) ∷ []
@@ -91,12 +98,9 @@ packedWords s =
     (s .position ∷ toneTag (s .setup .tape .tone) ∷ padTag (s .setup .tape .pad) ∷ flagged (s .setup .tape .darkened) ∷ flagged (s .setup .tape .ducked) ∷ s .points ∷ [])
     ++ (rampWords (s .daylight)
     ++ (rampWords (s .rain)
-    ++ (s .tape .duck .count ∷ s .tape .duck .reached ∷ s .tape .duck .ducking ∷ s .ceiling .count ∷ s .ceiling .head ∷ s .ceiling .len ∷ [])))
+    ++ (s .tape .duck .count ∷ s .tape .duck .reached ∷ s .tape .duck .ducking ∷ s .ceiling .count ∷ s .ceiling .head ∷ s .ceiling .len ∷ s .tape .until ∷ [])))
 
 -- ---- what can be read back
-
-abbrev pub numberAt : List Float → ℕ → Float
-numberAt ns k = getD ns k nan
 
 abbrev pub wordAt : List ℕ → ℕ → ℕ
 wordAt ws k = getD ws k 0
@@ -134,8 +138,8 @@ wordsFit ws = leb (wordAt ws 3) 1 && (leb (wordAt ws 4) 1 && (leb (wordAt ws 8) 
 -- enough numbers and words, and each tag, bool and f32 one
 unfoldable pub unpackable : List Float → List ℕ → Bool
 unpackable ns ws =
-    leb 85 (length ns)
-    && (leb 18 (length ws) && (shortsFit ns && (toneFits ns (wordAt ws 1) && (padFits ns (wordAt ws 2) && wordsFit ws))))
+    leb numbersLong (length ns)
+    && (leb wordsLong (length ws) && (shortsFit ns && (toneFits ns (wordAt ws 1) && (padFits ns (wordAt ws 2) && wordsFit ws))))
 
 -- ---- reading back
 
@@ -200,6 +204,9 @@ tapeFrom ns ws =
       tone = lowpassFrom ns 15;
       equalizer = record { bump = sectionFrom ns 33; rolloff = lowpassFrom ns 42; tilt = onePoleFrom ns 60 };
       duck = record { count = wordAt ws 12; reached = wordAt ws 13; ducking = wordAt ws 14 };
+      drive = numberAt ns 85;
+      top = numberAt ns 86;
+      until = wordAt ws 18;
     }
 
 unfoldable pub plateFrom : List Float → Plate

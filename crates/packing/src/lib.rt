@@ -1,15 +1,16 @@
 // A strip as numbers and words: what a caller of the C library lends a strip's memory as. specs/Packing.antt has each place;
-// packing and unpacking are inverse (proofs/Inverse.antt). Uses casts, and the crates of the stages and strip for their types.
+// packing and unpacking are inverse (proofs/Inverse.antt). Uses casts, the crates of the stages and strip for their types, and setup for one definition.
 ghost use mathlib.Core.Path.{_≡_};
 ghost use Prim.Native.Nat.{_+_, _≤_};
 ghost use lib.ListN.{length};
-ghost use Rattle.packing.specs.Packing.{toneNumbers, toneTag, padNumbers, padTag, shapeTag, flagged, packedNumbers, packedWords, isShort, isNought, bothShort, bothNought, toneFits, padFits, shortsFit, wordsFit, unpackable, toneAt, padAt, shapeOf, flagOf, sectionFrom, lowpassFrom, onePoleFrom, rampFrom, setupFrom, tapeFrom, plateFrom, ceilingFrom, stripFrom, unpacked};
+ghost use Rattle.packing.specs.Packing.{numbersLong, wordsLong, toneNumbers, toneTag, padNumbers, padTag, shapeTag, flagged, packedNumbers, packedWords, isShort, isNought, bothShort, bothNought, toneFits, padFits, shortsFit, wordsFit, unpackable, toneAt, padAt, shapeOf, flagOf, sectionFrom, lowpassFrom, onePoleFrom, rampFrom, setupFrom, tapeFrom, plateFrom, ceilingFrom, stripFrom, unpacked};
 use automation::Tone;
 use biquad::Lowpass;
 use biquad::Section;
 use duck::Duck;
 use master::Ceiling;
 use onepole::OnePole;
+use oscillators::Pad;
 use plate::Plate;
 use plate::Tank;
 use ramp::Ramp;
@@ -17,14 +18,13 @@ use ramp::Shape;
 use strip::Setup;
 use strip::Strip;
 use tape::Equalizer;
-use tape::Pad;
 use tape::Tape;
 use tape::TapeSetup;
 
 // How many numbers and how many words a strip is.
-pub const NUMBERS: usize = 85;
+pub const NUMBERS: usize = 87;
 
-pub const WORDS: usize = 18;
+pub const WORDS: usize = 19;
 
 // A strip, or no strip where the numbers and words are too few or a tag, a bool or an f32 is none.
 pub enum Unpacked {
@@ -113,7 +113,7 @@ fn word_of(n: usize) -> u64
     n as u64
 }
 
-pub fn numbers_of(s: Strip) -> [f64; 85]
+pub fn numbers_of(s: Strip) -> [f64; 87]
     ensures { λ r. ⌜ r ≡ packedNumbers s ⌝ }
 {
     let setup = s.setup;
@@ -210,10 +210,12 @@ pub fn numbers_of(s: Strip) -> [f64; 85]
         s.plate.right.y1,
         s.plate.right.y2,
         s.ceiling.released,
+        s.tape.drive,
+        s.tape.top,
     ]
 }
 
-pub fn words_of(s: Strip) -> [u64; 18]
+pub fn words_of(s: Strip) -> [u64; 19]
     ensures { λ r. ⌜ r ≡ packedWords s ⌝ }
 {
     let setup = s.setup;
@@ -243,6 +245,7 @@ pub fn words_of(s: Strip) -> [u64; 18]
         s.ceiling.count,
         word_of(s.ceiling.head),
         word_of(s.ceiling.len),
+        s.tape.until,
     ]
 }
 
@@ -282,7 +285,7 @@ fn both_nought(numbers: &[f64], k: usize) -> bool
 }
 
 fn tone_fits(numbers: &[f64], tag: u64) -> bool
-    requires { ⌜ 85 ≤ length (now numbers) ⌝ }
+    requires { ⌜ numbersLong ≤ length (now numbers) ⌝ }
     ensures { λ r. ⌜ r ≡ toneFits (now (numbers .entry)) tag ⌝ }
 {
     if tag == 0 {
@@ -298,7 +301,7 @@ fn tone_fits(numbers: &[f64], tag: u64) -> bool
 }
 
 fn pad_fits(numbers: &[f64], tag: u64) -> bool
-    requires { ⌜ 85 ≤ length (now numbers) ⌝ }
+    requires { ⌜ numbersLong ≤ length (now numbers) ⌝ }
     ensures { λ r. ⌜ r ≡ padFits (now (numbers .entry)) tag ⌝ }
 {
     if tag == 0 {
@@ -311,7 +314,7 @@ fn pad_fits(numbers: &[f64], tag: u64) -> bool
 }
 
 fn shorts_fit(numbers: &[f64]) -> bool
-    requires { ⌜ 85 ≤ length (now numbers) ⌝ }
+    requires { ⌜ numbersLong ≤ length (now numbers) ⌝ }
     ensures { λ r. ⌜ r ≡ shortsFit (now (numbers .entry)) ⌝ }
 {
     if !is_short(numbers[0]) {
@@ -321,7 +324,7 @@ fn shorts_fit(numbers: &[f64]) -> bool
 }
 
 fn words_fit(words: &[u64]) -> bool
-    requires { ⌜ 18 ≤ length (now words) ⌝ }
+    requires { ⌜ wordsLong ≤ length (now words) ⌝ }
     ensures { λ r. ⌜ r ≡ wordsFit (now (words .entry)) ⌝ }
 {
     if 1 < words[3] {
@@ -360,7 +363,7 @@ fn unpackable(numbers: &[f64], words: &[u64]) -> bool
 // ---- reading back
 
 fn tone_at(numbers: &[f64], tag: u64) -> Tone
-    requires { ⌜ 85 ≤ length (now numbers) ⌝ }
+    requires { ⌜ numbersLong ≤ length (now numbers) ⌝ }
     ensures { λ r. ⌜ r ≡ toneAt (now (numbers .entry)) tag ⌝ }
 {
     let corner = casts::narrow(numbers[0]);
@@ -379,7 +382,7 @@ fn tone_at(numbers: &[f64], tag: u64) -> Tone
 }
 
 fn pad_at(numbers: &[f64], tag: u64) -> Pad
-    requires { ⌜ 85 ≤ length (now numbers) ⌝ }
+    requires { ⌜ numbersLong ≤ length (now numbers) ⌝ }
     ensures { λ r. ⌜ r ≡ padAt (now (numbers .entry)) tag ⌝ }
 {
     if tag == 0 {
@@ -460,7 +463,7 @@ fn ramp_from(numbers: &[f64], words: &[u64], k: usize, j: usize) -> Ramp
 }
 
 fn setup_from(numbers: &[f64], words: &[u64]) -> Setup
-    requires { ⌜ (85 ≤ length (now numbers)) × (18 ≤ length (now words)) ⌝ }
+    requires { ⌜ (numbersLong ≤ length (now numbers)) × (wordsLong ≤ length (now words)) ⌝ }
     ensures { λ r. ⌜ r ≡ setupFrom (now (numbers .entry)) (now (words .entry)) ⌝ }
 {
     let tone = tone_at(numbers, words[1]);
@@ -488,7 +491,7 @@ fn size_of(w: u64) -> usize
 }
 
 fn tape_from(numbers: &[f64], words: &[u64]) -> Tape
-    requires { ⌜ (85 ≤ length (now numbers)) × (18 ≤ length (now words)) ⌝ }
+    requires { ⌜ (numbersLong ≤ length (now numbers)) × (wordsLong ≤ length (now words)) ⌝ }
     ensures { λ r. ⌜ r ≡ tapeFrom (now (numbers .entry)) (now (words .entry)) ⌝ }
 {
     let tone = lowpass_from(numbers, 15);
@@ -509,11 +512,14 @@ fn tape_from(numbers: &[f64], words: &[u64]) -> Tape
         tone,
         equalizer,
         duck,
+        drive: numbers[85],
+        top: numbers[86],
+        until: words[18],
     }
 }
 
 fn plate_from(numbers: &[f64]) -> Plate
-    requires { ⌜ 85 ≤ length (now numbers) ⌝ }
+    requires { ⌜ numbersLong ≤ length (now numbers) ⌝ }
     ensures { λ r. ⌜ r ≡ plateFrom (now (numbers .entry)) ⌝ }
 {
     let tank_left = one_pole_from(numbers, 62);
@@ -528,7 +534,7 @@ fn plate_from(numbers: &[f64]) -> Plate
 }
 
 fn ceiling_from(numbers: &[f64], words: &[u64]) -> Ceiling
-    requires { ⌜ (85 ≤ length (now numbers)) × (18 ≤ length (now words)) ⌝ }
+    requires { ⌜ (numbersLong ≤ length (now numbers)) × (wordsLong ≤ length (now words)) ⌝ }
     ensures { λ r. ⌜ r ≡ ceilingFrom (now (numbers .entry)) (now (words .entry)) ⌝ }
 {
     Ceiling {
@@ -540,7 +546,7 @@ fn ceiling_from(numbers: &[f64], words: &[u64]) -> Ceiling
 }
 
 fn strip_from(numbers: &[f64], words: &[u64]) -> Strip
-    requires { ⌜ (85 ≤ length (now numbers)) × (18 ≤ length (now words)) ⌝ }
+    requires { ⌜ (numbersLong ≤ length (now numbers)) × (wordsLong ≤ length (now words)) ⌝ }
     ensures { λ r. ⌜ r ≡ stripFrom (now (numbers .entry)) (now (words .entry)) ⌝ }
 {
     let setup = setup_from(numbers, words);

@@ -68,13 +68,13 @@ pub fn run(
 
 // ---- latch
 
-// Both ramps on their way from the strip's position.
+// Both ramps on their way from the strip's position. The lane's tuning follows the daylight's, so it is given up.
 fn latched(strip: Strip, controls: Controls) -> Strip
     ensures { λ r. ⌜ r ≡ latchedStrip strip controls ⌝ }
 {
     let n = strip.position;
     let setup = strip.setup;
-    let tape = strip.tape;
+    let tape = tape::untuned(strip.tape);
     let plate = strip.plate;
     let ceiling = strip.ceiling;
     let daylight = strip
@@ -119,8 +119,8 @@ fn resting(rate: Rate, strip: Strip, store: &[f64], counts: &[u64]) -> bool
     requires { ⌜ Sized rate (now store) (now counts) ⌝ }
     ensures { λ r. ⌜ r ≡ restingOn rate (state strip (now (store .entry)) (now (counts .entry))) ⌝ }
 {
-    let a = refusals::places::plate_at(rate);
-    let e = refusals::places::ceiling_at(rate);
+    let a = rate::places::plate_at(rate);
+    let e = rate::places::ceiling_at(rate);
     let tape = strip.tape;
     let plate = strip.plate;
     if tape::at_rest(tape, &store[0..a]) {

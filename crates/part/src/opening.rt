@@ -32,8 +32,8 @@ pub fn lay_samples(rate: Rate, values: &[f64], store: &mut [f64])
     requires { ⌜ (rate .samples ≤ length (now store)) × (length (now values) ≤ 256) ⌝ }
     ensures { λ _. ⌜ now (store .exit) ≡ silenced rate (now (values .entry)) (now (store .entry)) ⌝ }
 {
-    let a = refusals::places::ceiling_at(rate);
-    let v = refusals::places::values_at(rate);
+    let a = rate::places::ceiling_at(rate);
+    let v = rate::places::values_at(rate);
     clear(&mut store[0..a]);
     let e = store.len();
     laying::lay_values(values, &mut store[v..e]);
@@ -45,8 +45,8 @@ pub fn lay_counts(rate: Rate, positions: &[u64], kicks: &[u64], counts: &mut [u6
     requires { ⌜ (rate .counts ≤ length (now counts)) × (length (now positions) ≤ 256) × (length (now kicks) ≤ 1024) ⌝ }
     ensures { λ _. ⌜ now (counts .exit) ≡ listed rate (now (positions .entry)) (now (kicks .entry)) (now (counts .entry)) ⌝ }
 {
-    let p = refusals::places::positions_at(rate);
-    Duck::new(kicks, &mut counts[0..refusals::places::DUCK]);
+    let p = rate::places::positions_at(rate);
+    Duck::new(kicks, &mut counts[0..rate::places::DUCK]);
     let e = counts.len();
     laying::lay_positions(positions, &mut counts[p..e]);
 }
@@ -57,13 +57,13 @@ pub fn fresh_ceiling(rate: Rate, store: &mut [f64], counts: &mut [u64]) -> Ceili
     requires { ⌜ Sized rate (now store) (now counts) ⌝ }
     ensures { λ r. ⌜ ceiled r (now (store .exit)) (now (counts .exit)) ≡ ceiledFresh rate (now (store .entry)) (now (counts .entry)) ⌝ }
 {
-    let a = refusals::places::ceiling_at(rate);
-    let v = refusals::places::values_at(rate);
-    let p = refusals::places::positions_at(rate);
+    let a = rate::places::ceiling_at(rate);
+    let v = rate::places::values_at(rate);
+    let p = rate::places::positions_at(rate);
     master::fresh(
         rate.ceiling,
         &mut store[a..v],
-        &mut counts[refusals::places::DUCK..p],
+        &mut counts[rate::places::DUCK..p],
     )
 }
 

@@ -374,14 +374,6 @@ fn group(
     plate
 }
 
-// Where the group ends that starts at i, of `most` samples.
-fn group_end(i: usize, most: usize) -> usize
-    requires { ⌜ i < most ⌝ }
-    ensures { λ r. ⌜ (i < r) × (r ≤ most) × (r ≤ i + 8) ⌝ }
-{
-    if most - i < 8 { most } else { i + 8 }
-}
-
 // A block: what is sent lies in left, and the two sides take its place and right's.
 pub fn block(
     rate: PlateRate,
@@ -400,7 +392,7 @@ pub fn block(
     let mut plate = plate;
     let mut i = 0;
     while i < left.len() {
-        let e = group_end(i, left.len());
+        let e = eight::group_end(i, left.len());
         plate = group(
             rate,
             plate,

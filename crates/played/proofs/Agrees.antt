@@ -11,14 +11,16 @@ use Rattle.biquad.specs.Cookbook.{normalized, angleOf, lpf, hpf, bpf, lowpassAt
 use Rattle.biquad.specs.Section.{sectionAt, sectionStep, retuned, lowpassStep, sectionAtRest, lowpassAtRest}
 use Rattle.delay.specs.Delay.{powerFrom, ringOf, tapOf, allZero}
 use Rattle.ramp.specs.Ramp.{held, shaped, rampAt, toward}
-use Rattle.duck.specs.Sidechain.{sidechainGain, marksAt, timesGains, duckStep}
+use Rattle.sidechain.specs.Sidechain.{sidechainGain}
+use Rattle.duck.specs.Duck.{marksAt, timesGains, duckStep}
 use Rattle.rate.specs.Ceiling.{limitOf, ceilingRate}
 use Rattle.rate.specs.Lengths.{rounded, ceilOf, samplesAt}
 use Rattle.rate.specs.Plate.{scaled, predelayOf, excursionOf, reachOf, inputRate, leftTaps, rightTaps, halfRate, leftRate, rightRate, tripOf, decayOf, diffusionOf, dampingOf, highpassOf, plateRate}
 use Rattle.rate.specs.Rate.{rateOf}
 use Rattle.rate.specs.Tape.{warpOf, wowOf, flutterOf, duckRate, tapeRate}
 use Rattle.automation.specs.Automation.{blockOf, daylightOf, reached, segment, sweepAt, swept, cornerBetween, driveBetween, toneAt, tuningAt}
-use Rattle.tape.specs.Tape.{phaseOf, swellOf, warpDelay, saturated, liftAt, equalizerStep, duckedStep, tapeStep, freshTone, freshEqualizer, freshTapeMachine, equalizerAtRest, tapeAtRest}
+use Rattle.oscillators.specs.Oscillators.{phaseOf, swellOf, warpDelay}
+use Rattle.tape.specs.Tape.{saturated, liftAt, equalizerStep, duckedStep, tapeStep, freshTone, freshEqualizer, freshTapeMachine, equalizerAtRest, tapeAtRest}
 use Rattle.allpass.specs.Allpass.{storedOf, latticeFrom, latticeStep, stretchedStep, delayStep}
 use Rattle.plate.specs.Machine.{inputStep, halfStep, leaving, tapsOf, fedOf, turnOf, stretchOf, tankStep, returnedOf, plateStep, freshHalf, freshPlate, inputAtRest, halfAtRest, atRest}
 use Rattle.master.specs.Ceiling.{sizeOf, largerOf, peakOf, needFor, needOf, least, leastOf, heldOf, releasedOf, lastOf, total, countOf, lateOf, gainOf, clamped, played, deliver, taken, delivered, ceilingStep}

@@ -6,7 +6,7 @@ use lib.ListN.{replicate}
 use lib.Ieee.{Float, binary32, binary64, ofBits}
 use Rattle.casts.specs.Arithmetic.{nought}
 use Rattle.automation.specs.declared.Tone.the-variants.{Fixed, Graded}
-use Rattle.tape.specs.declared.Pad.the-variants.{Without, Swell}
+use Rattle.oscillators.specs.declared.Pad.the-variants.{Without, Swell}
 use Rattle.tape.specs.Tape.{Lists}
 use Rattle.strip.specs.declared.Setup.{Setup}
 use Rattle.strip.specs.Promise.{Call, run, move, ask, Answer, ran, moved, rests, declined}

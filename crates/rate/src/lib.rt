@@ -1,5 +1,6 @@
 // The rate's own type: what depends on the rate, for each stage, made by a constructor out of constants.
-// Uses biquad, delay and duck for their types; the definitions in specs/ use casts, elementary, stream and onepole too.
+// places.rt has where the stages' parts begin in the stores.
+// Uses biquad, delay and sidechain for their types; the definitions in specs/ use casts, elementary, stream and onepole too.
 ghost use mathlib.Core.Path.{_≡_};
 ghost use Rattle.casts.specs.Arithmetic.{whole};
 ghost use Rattle.biquad.specs.Cookbook.{lowpassAt, bandpassAt, butterQ};
@@ -9,7 +10,9 @@ ghost use Rattle.rate.specs.Ceiling.{ceilingRate};
 ghost use Rattle.rate.specs.Rate.{rateOf};
 use biquad::Coefficients;
 use delay::DelayLine;
-use duck::DuckRate;
+use sidechain::DuckRate;
+
+pub mod places;
 
 // Wow or flutter: radians a sample, and the read head's excursion in samples.
 pub struct Warp {

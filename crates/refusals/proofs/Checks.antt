@@ -1,6 +1,6 @@
 -- Laws of the refusals. Assumes nothing.
 use mathlib.Core.Path.{_≡_, sym, _∙_}
-use mathlib.Core.Bool.{Bool, true, false, not, _&&_}
+use mathlib.Core.Bool.{true, false, _&&_}
 use Prim.Native.Nat.{ℕ, _+_, _-_, _*_, _≤_, _<_}
 use native.Mathlib.Numerals.{add-one}
 use native.Mathlib.Omega.{arith}
@@ -10,16 +10,8 @@ use lib.ListN.{length, drop, getD, drop-of-length-le}
 use lib.Seq.{drop-cons}
 use lib.Ieee.{Float, nan}
 use lib.Dec.{leb, eqb}
-use borrow.Author.Tests.{not-true, not-false, le-leb, lt-leb, eq-eqb, ne-eqb}
+use borrow.Author.Tests.{le-leb, lt-leb, eq-eqb, ne-eqb}
 use Rattle.strip.specs.Refusals.{furthest, okUnit, allUnit, okOutputs, okEnd, okSample, allOk}
-
--- ---- a ground that a callee answers
-module _ {a b : Bool} (e : b ≡ a) where
-  pub passes : not b ≡ false → a ≡ true
-  passes n = sym e ∙ not-false b n
-
-  pub fails : not b ≡ true → a ≡ false
-  fails n = sym e ∙ not-true b n
 
 -- ---- values from 0 to 1, one more
 module _ (l : List Float) (i : ℕ) where

@@ -1,5 +1,5 @@
 // Document 01, 'When the part declines': a function for each ground, true where the part does not decline, and the numbers in their order.
-// places.rt has where the stages' parts begin in the stores. Uses casts, duck, master and rate, and strip for the types and definitions.
+// Uses casts, duck, master and rate, and strip for the types and definitions.
 ghost use mathlib.Core.Path.{_≡_};
 ghost use Prim.Native.Nat.{_+_, _≤_};
 ghost use lib.ListN.{take, drop};
@@ -14,15 +14,14 @@ ghost use Rattle.refusals.specs.Pieces.{listsOf, Sized, stripFormed};
 use automation::Tone;
 use duck::Duck;
 use master::Ceiling;
+use oscillators::Pad;
 use ramp::Ramp;
 use rate::Rate;
+use rate::places;
 use strip::Controls;
 use strip::Setup;
 use strip::Strip;
-use tape::Pad;
 use tape::TapeSetup;
-
-pub mod places;
 
 // The last position.
 const LAST: u64 = 4294967296;

@@ -1,4 +1,4 @@
--- A lane's setup out of eight f32 (corner or night corner, day corner, night drive, day drive, swell rate, swell depth, daylight, rain), four f64
+-- A setup out of eight f32 (corner or night corner, day corner, night drive, day drive, swell rate, swell depth, daylight, rain), four f64
 -- (fixed drive, gain in, gain out, send) and flags (1 graded, 2 pad, 4 rain-darkened, 8 ducked). Definitions only.
 use Prim.Native.Nat.{ℕ, _/_, _%_}
 use mathlib.Core.Bool.{Bool, cond}
@@ -8,9 +8,10 @@ use lib.ListN.{getD}
 use lib.Ieee.{Float, nan}
 use Rattle.automation.specs.declared.Tone.{Tone}
 use Rattle.automation.specs.declared.Tone.the-variants.{Fixed, Graded}
-use Rattle.tape.specs.declared.Pad.{Pad}
-use Rattle.tape.specs.declared.Pad.the-variants.{Without, Swell}
+use Rattle.oscillators.specs.declared.Pad.{Pad}
+use Rattle.oscillators.specs.declared.Pad.the-variants.{Without, Swell}
 use Rattle.tape.specs.declared.TapeSetup.{TapeSetup}
+use Rattle.strip.specs.declared.Setup.{Setup}
 
 abbrev pub numberAt : List Float → ℕ → Float
 numberAt xs k = getD xs k nan
@@ -31,3 +32,6 @@ tapeSetupOf singles doubles flags =
       output = numberAt doubles 2;
       ducked = eqb (flags / 8 % 2) 1;
     }
+
+unfoldable pub setupOf : List Float → List Float → ℕ → Setup
+setupOf singles doubles flags = record { tape = tapeSetupOf singles doubles flags; daylight = numberAt singles 6; rain = numberAt singles 7; send = numberAt doubles 3 }

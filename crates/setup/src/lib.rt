@@ -1,8 +1,10 @@
-// A lane's setup out of the numbers and flags that C hands over (specs/Setup.antt). Uses automation and tape for their types.
+// A setup, and the lane's part of it, out of the numbers and flags that C hands over (specs/Setup.antt). Uses automation, oscillators, tape
+// and strip for their types.
 ghost use mathlib.Core.Path.{_≡_};
-ghost use Rattle.setup.specs.Setup.{toneOf, padOf, tapeSetupOf};
+ghost use Rattle.setup.specs.Setup.{toneOf, padOf, tapeSetupOf, setupOf};
 use automation::Tone;
-use tape::Pad;
+use oscillators::Pad;
+use strip::Setup;
 use tape::TapeSetup;
 
 fn tone_of(singles: &[f32; 8], drive: f64, graded: bool) -> Tone
@@ -31,7 +33,7 @@ fn pad_of(hz: f32, depth: f32, pad: bool) -> Pad
     Pad::Without
 }
 
-pub fn setup_of(singles: &[f32; 8], doubles: &[f64; 4], flags: u64) -> TapeSetup
+pub fn tape_setup_of(singles: &[f32; 8], doubles: &[f64; 4], flags: u64) -> TapeSetup
     ensures { λ r. ⌜ r ≡ tapeSetupOf (now (singles .entry)) (now (doubles .entry)) flags ⌝ }
 {
     let tone = tone_of(singles, doubles[0], flags % 2 == 1);
@@ -43,5 +45,17 @@ pub fn setup_of(singles: &[f32; 8], doubles: &[f64; 4], flags: u64) -> TapeSetup
         input: doubles[1],
         output: doubles[2],
         ducked: flags / 8 % 2 == 1,
+    }
+}
+
+pub fn setup_of(singles: &[f32; 8], doubles: &[f64; 4], flags: u64) -> Setup
+    ensures { λ r. ⌜ r ≡ setupOf (now (singles .entry)) (now (doubles .entry)) flags ⌝ }
+{
+    let tape = tape_setup_of(singles, doubles, flags);
+    Setup {
+        tape,
+        daylight: singles[6],
+        rain: singles[7],
+        send: doubles[3],
     }
 }

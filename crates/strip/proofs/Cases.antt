@@ -2,7 +2,7 @@
 use Rattle.stream.specs.Cases.{case-a}
 use Rattle.ramp.specs.Cases.{case-b, case-c, case-d}
 use Rattle.automation.specs.Cases.{case-e, case-f, case-g}
-use Rattle.duck.specs.Cases.{case-h}
+use Rattle.sidechain.specs.Cases.{case-h}
 use Rattle.delay.specs.Cases.{case-i}
 use Rattle.rate.specs.Ceiling.{ceilingRate}
 use Rattle.master.proofs.Cases.{case-j, case-k}

@@ -179,8 +179,8 @@ module _ (r : Rate) (u : RateUsable r) (s : Setup) (l : Lists) (store : List Flo
   c-of : ceilingIn r at-first ≡ ceiling
   c-of = ceiling-of r strip values positions 0 tape plate ceiling long
 
-  holds : TapeHolds (r .tape) (s .tape .ducked) (l .kicks) 0 (freshTapeMachine (r .tape) (l .kicks)) tape
-  holds = tape-fresh (r .tape) (u .tape) (s .tape .ducked) (l .kicks) (take tapeCounts counts) (o .kicks) (rw ducks-length (omega arith)) (o .risen)
+  holds : TapeHolds (r .tape) (s .tape) (held (s .daylight) Linear) l 0 (freshTapeMachine (r .tape) (l .kicks)) tape
+  holds = tape-fresh (r .tape) (u .tape) (s .tape) (held (s .daylight) Linear) l (take tapeCounts counts) (o .kicks) (rw ducks-length (omega arith)) (o .risen)
 
   lists-first : l ≡ listsIn r at-first
   unfolding openedStrip freshTape
@@ -202,7 +202,7 @@ module _ (r : Rate) (u : RateUsable r) (s : Setup) (l : Lists) (store : List Flo
             daylight = refl;
             rain = refl;
             lists = lists-first;
-            tape = subst⁻¹ (TapeHolds (r .tape) (s .tape .ducked) (l .kicks) 0 (freshTapeMachine (r .tape) (l .kicks))) t-of holds;
+            tape = subst⁻¹ (TapeHolds (r .tape) (s .tape) (held (s .daylight) Linear) l 0 (freshTapeMachine (r .tape) (l .kicks))) t-of holds;
             plate = subst⁻¹ (PlateHolds (r .plate) 0 (freshPlate (r .plate))) p-of (plate-fresh (r .plate) (u .plate) 0);
             ceiling = subst⁻¹ (refines.Holds (r .ceiling) 0 freshMachine) c-of (refines.fresh-holds (r .ceiling) (u .ceiling) ceiling (fresh-is (r .ceiling) samples gains sized));
             ready = subst⁻¹ (Ready (r .ceiling)) c-of (fresh-ready (r .ceiling) (u .ceiling) ceiling (fresh-is (r .ceiling) samples gains sized));

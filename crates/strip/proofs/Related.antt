@@ -22,7 +22,7 @@ use Rattle.duck.specs.Rising.{risingFrom}
 use Rattle.duck.specs.Cursors.{duckOn, kicksIn, duckFormed}
 use Rattle.tape.specs.Tape.{Lists, TapeMachine, tapeStep, tapeAtRest}
 use Rattle.tape.specs.Kept.{TapeIn, tapeOn, tapeStepOn, tapeAtRestOn}
-use Rattle.tape.proofs.Related.{TapeHolds, tape-relates, tape-rest, tape-formed, ring-sized, counts-sized}
+use Rattle.tape.proofs.Related.{TapeHolds, tape-relates, tape-untuned, tape-rest, tape-formed, ring-sized, counts-sized}
 use Rattle.plate.specs.Machine.{PlateMachine, plateStep, atRest}
 use Rattle.plate.specs.Plate.{PlateIn, plateStepOn, atRestOn}
 use Rattle.plate.proofs.Theorem.{PlateHolds, plate-relates}
@@ -65,7 +65,7 @@ pub record Stands (r : Rate) (m : Machine) (st : State) : Type 0 where
   pub daylight : m .daylight ≡ st .strip .daylight
   pub rain : m .rain ≡ st .strip .rain
   pub lists : m .lists ≡ listsIn r st
-  pub tape : TapeHolds (r .tape) (m .setup .tape .ducked) (m .lists .kicks) (m .position) (m .tape) (tapeIn r st)
+  pub tape : TapeHolds (r .tape) (m .setup .tape) (m .daylight) (m .lists) (m .position) (m .tape) (tapeIn r st)
   pub plate : PlateHolds (r .plate) (m .position) (m .plate) (plateIn r st)
   pub ceiling : refines.Holds (r .ceiling) (m .position) (m .ceiling) (ceilingIn r st)
   pub ready : Ready (r .ceiling) (ceilingIn r st)
@@ -100,7 +100,7 @@ is-formed r u m st g =
     let b : okRamp (st .strip .rain) ≡ true = subst (λ (v : Ramp). okRamp v ≡ true) (g .rain) (g .rained) in
     let c : okSetup (st .strip .setup) ≡ true = subst (λ (v : Setup). okSetup v ≡ true) (g .setup) (g .ranged) in
     let e : okPoints (listsIn r st .positions) (listsIn r st .values) ≡ true = subst (λ (v : Lists). okPoints (v .positions) (v .values) ≡ true) (g .lists) (g .pointed) in
-    let k : duckFormed (duckOn (st .strip .tape .duck) (tapeIn r st .counts)) ≡ true = tape-formed (r .tape) _ _ _ _ (tapeIn r st) (g .tape) in
+    let k : duckFormed (duckOn (st .strip .tape .duck) (tapeIn r st .counts)) ≡ true = tape-formed (r .tape) _ _ _ _ _ (tapeIn r st) (g .tape) in
     rw (p, a, b, c, le-leb _ _ (g .few), e, k) (true-of _ (of-ready (r .ceiling) (ceilingIn r st) (g .ready)))
 
 pub none-first : (r : Rate) → RateUsable r → (m : Machine) (st : State) → Stands r m st → (own : ℕ) → first r st own ≡ own
@@ -132,7 +132,7 @@ module _ (r : Rate) (u : RateUsable r) (m : Machine) (st : State) (g : Stands r 
   step-is = rw (g .position, g .setup, g .daylight, g .rain, g .lists)
 
   abbrev relation : ℕ → TapeMachine × (PlateMachine × CeilingMachine) → TapeIn × (PlateIn × CeilingIn) → Type 0
-  relation = Both (TapeHolds (r .tape) (m .setup .tape .ducked) (m .lists .kicks)) (Both (PlateHolds (r .plate)) (refines.Holds (r .ceiling)))
+  relation = Both (TapeHolds (r .tape) (m .setup .tape) (m .daylight) (m .lists)) (Both (PlateHolds (r .plate)) (refines.Holds (r .ceiling)))
 
   related : Relates relation
       (both (tapeStep (r .tape) (m .setup .tape) (m .daylight) (m .rain) (m .lists) d) (both (mixedStep (r .plate) (m .setup .send)) (ceilingStep (r .ceiling))))
@@ -228,7 +228,7 @@ module _ (r : Rate) (u : RateUsable r) (m : Machine) (st : State) (g : Stands r 
             daylight = unfold stepped in g .daylight;
             rain = unfold stepped in g .rain;
             lists = unfold stepped in lists-next;
-            tape = subst⁻¹ (λ (w : TapeIn). TapeHolds (r .tape) (stepped r m x d .next .setup .tape .ducked) (stepped r m x d .next .lists .kicks) (stepped r m x d .next .position) (stepped r m x d .next .tape) w) t-of (unfold stepped in holds-next .0);
+            tape = subst⁻¹ (λ (w : TapeIn). TapeHolds (r .tape) (stepped r m x d .next .setup .tape) (stepped r m x d .next .daylight) (stepped r m x d .next .lists) (stepped r m x d .next .position) (stepped r m x d .next .tape) w) t-of (unfold stepped in holds-next .0);
             plate = subst⁻¹ (λ (w : PlateIn). PlateHolds (r .plate) (stepped r m x d .next .position) (stepped r m x d .next .plate) w) p-of (unfold stepped in holds-next .1 .0);
             ceiling = subst⁻¹ (λ (w : CeilingIn). refines.Holds (r .ceiling) (stepped r m x d .next .position) (stepped r m x d .next .ceiling) w) c-of (unfold stepped in holds-next .1 .1);
             ready = subst⁻¹ (Ready (r .ceiling)) c-of (ready-next (r .ceiling) (u .ceiling) n (ceilingIn r st) _ (g .ready));
@@ -291,7 +291,7 @@ latch-stands r m st g c a b =
       daylight = rw (g .daylight, g .position);
       rain = rw (g .rain, g .position);
       lists = g .lists;
-      tape = g .tape;
+      tape = tape-untuned (r .tape) (m .setup .tape) (m .daylight) _ (m .lists) (m .position) (m .tape) (tapeIn r st) (g .tape);
       plate = g .plate;
       ceiling = g .ceiling;
       ready = g .ready;
@@ -310,4 +310,4 @@ latch-stands r m st g c a b =
 pub same-rest : (r : Rate) → RateUsable r → (m : Machine) (st : State) → Stands r m st → resting m ≡ restingOn r st
 unfolding resting restingOn
 same-rest r u m st g =
-    rw (tape-rest (r .tape) (u .tape) _ _ _ (m .tape) (tapeIn r st) (g .tape), plate-rest (r .plate) (u .plate) _ (m .plate) (plateIn r st) (g .plate))
+    rw (tape-rest (r .tape) (u .tape) _ _ _ _ (m .tape) (tapeIn r st) (g .tape), plate-rest (r .plate) (u .plate) _ (m .plate) (plateIn r st) (g .plate))

@@ -15,7 +15,7 @@ use Rattle.rate.specs.declared.PlateRate.{PlateRate}
 use Rattle.rate.specs.Rate.{tapeSamples, plateSamples, ceilingSamples, valuesAt, tapeCounts, ceilingCounts, positionsAt}
 use Rattle.duck.specs.Cursors.{duckOn, kicksIn, laid, duckFormed}
 use Rattle.tape.specs.Tape.{Lists, freshTape}
-use Rattle.tape.specs.Kept.{TapeIn, tapeOn, tapeStepOn, tapeAtRestOn}
+use Rattle.tape.specs.Kept.{TapeIn, tapeOn, untuned, tapeStepOn, tapeAtRestOn}
 use Rattle.plate.specs.Plate.{PlateIn, plateOn, plateStepOn, freshOn, atRestOn}
 use Rattle.master.specs.declared.Heard.{Heard}
 use Rattle.master.specs.Kept.{CeilingIn, ceilingOn, ceilingStepOn, ceilingFresh, framesOut, countsOut}
@@ -168,6 +168,7 @@ runCall r st xs d frames gains =
 
 -- ---- latch
 
+-- the ramps move, and the lane's tuning, which follows the daylight, is given up
 unfoldable pub latchedStrip : Strip → Controls → Strip
 latchedStrip s c =
     record {
@@ -176,7 +177,7 @@ latchedStrip s c =
       points = s .points;
       daylight = toward (s .daylight) (s .position) (c .daylight) (c .grading);
       rain = toward (s .rain) (s .position) (c .rain) (c .darkening);
-      tape = s .tape;
+      tape = untuned (s .tape);
       plate = s .plate;
       ceiling = s .ceiling;
     }

@@ -11,7 +11,7 @@ use Rattle.ramp.specs.declared.Ramp.{Ramp}
 use Rattle.ramp.specs.Ramp.{rampAt, toward}
 use Rattle.ramp.specs.Cases.{rising}
 use Rattle.automation.specs.Automation.{blockOf, sweepAt, swept}
-use Rattle.duck.specs.Sidechain.{sidechainGain}
+use Rattle.sidechain.specs.Sidechain.{sidechainGain}
 use Rattle.delay.specs.Delay.{atOf, tapOf}
 use Rattle.delay.specs.Cases.{line}
 use Rattle.rate.specs.declared.CeilingRate.{CeilingRate}

@@ -11,8 +11,8 @@ use Rattle.ramp.specs.declared.Ramp.{Ramp}
 use Rattle.automation.specs.declared.Tone.{Tone}
 use Rattle.automation.specs.declared.Tone.the-variants.{Fixed, Graded}
 use Rattle.duck.specs.Rising.{risingFrom}
-use Rattle.tape.specs.declared.Pad.{Pad}
-use Rattle.tape.specs.declared.Pad.the-variants.{Without, Swell}
+use Rattle.oscillators.specs.declared.Pad.{Pad}
+use Rattle.oscillators.specs.declared.Pad.the-variants.{Without, Swell}
 use Rattle.tape.specs.declared.TapeSetup.{TapeSetup}
 use Rattle.tape.specs.Tape.{Lists}
 use Rattle.rate.specs.declared.Rate.{Rate}

@@ -1,3 +1,3 @@
 pub mod Passes
-pub mod Tuned
+pub mod Lasting
 pub mod Related

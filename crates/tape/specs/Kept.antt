@@ -1,13 +1,14 @@
 -- The lane as it is kept: the warp as a ring in its part of the sample store, the duck with its cursors in its part of the count store. Definitions only.
 use Prim.Native.Nat.{ℕ, _+_, _<_, _≤_}
 use mathlib.Core.Path.{_≡_}
-use mathlib.Core.Bool.{Bool, true, false, _&&_}
+use mathlib.Core.Bool.{Bool, true, false, cond, _&&_}
 use mathlib.Core.List.{List}
+use lib.Dec.{ltb}
 use lib.ListN.{length}
-use lib.Ieee.{Float, binary32, add, mul}
-use Rattle.casts.specs.Arithmetic.{_⊖_, _⊗_, one}
-use Rattle.casts.specs.Cast.{narrowed}
-use Rattle.eight.specs.Each.{eightOf, listed}
+use lib.Ieee.{Float}
+use Rattle.casts.specs.Arithmetic.{_⊗_}
+use Rattle.elementary.specs.Elementary.{TANH}
+use Rattle.eight.specs.Each.{saturatedOver}
 use Rattle.stage.specs.Stage.{Step, Stage, identity}
 use Rattle.biquad.specs.declared.Lowpass.{Lowpass}
 use Rattle.biquad.specs.Section.{lowpassStep, lowpassAtRest}
@@ -15,28 +16,16 @@ use Rattle.biquad.specs.Cookbook.{lowpassRetuned}
 use Rattle.delay.specs.Delay.{linePush, lineTap, allZero, Reach}
 use Rattle.ramp.specs.declared.Ramp.{Ramp}
 use Rattle.rate.specs.declared.TapeRate.{TapeRate}
-use Rattle.automation.specs.Automation.{tuningAt}
+use Rattle.automation.specs.declared.Tone.{Tone}
+use Rattle.automation.specs.Pieces.{pieceAt}
 use Rattle.duck.specs.declared.Duck.{Duck}
-use Rattle.duck.specs.declared.DuckRate.{DuckRate}
+use Rattle.sidechain.specs.declared.DuckRate.{DuckRate}
 use Rattle.duck.specs.Cursors.{DuckIn, duckOn, duckStepOn}
+use Rattle.oscillators.specs.Oscillators.{swellOf, warpDelay}
 use Rattle.tape.specs.declared.Tape.{Tape}
 use Rattle.tape.specs.declared.TapeSetup.{TapeSetup}
 use Rattle.tape.specs.declared.Equalizer.{Equalizer}
-use Rattle.tape.specs.Tape.{swellOf, warpDelay, saturated, equalizerStep, equalizerAtRest, Lists}
-
--- ---- the oscillators
-
--- the swell whose sine is s, in f32
-abbrev pub swelled : Float → Float → Float
-swelled depth s = add binary32 one (mul binary32 depth (narrowed s))
-
--- the warp's delay at the sines of wow and flutter
-abbrev pub readAt : TapeRate → Float → Float → Float
-readAt r wow flutter = r .reach ⊖ r .wow .a ⊗ wow ⊖ r .flutter .a ⊗ flutter
-
--- eight values in a row, unless few are asked for
-abbrev pub Laid : Bool → (ℕ → Float) → List Float → Type 0
-Laid few f l = few ≡ false → l ≡ listed (eightOf f)
+use Rattle.tape.specs.Tape.{equalizerStep, equalizerAtRest, Lists}
 
 -- ---- the passes
 
@@ -81,26 +70,45 @@ pub record TapeIn : Type 0 where
 abbrev pub tapeOn : Tape → List Float → List ℕ → TapeIn
 tapeOn t ring counts = record { tape = t; ring = ring; counts = counts }
 
--- with the tone as it is tuned, and a drive
-unfoldable pub tapeTuned : TapeRate → TapeSetup → Ramp → Float → Bool → Stage TapeIn Float Float
-tapeTuned r s rain drive d n t x =
+-- tuned as it is
+unfoldable pub tapeTuned : TapeRate → TapeSetup → Ramp → Bool → Stage TapeIn Float Float
+tapeTuned r s rain d n t x =
     let f = frontStepOn r s n (frontOn (t .tape .tone) (t .ring)) x in
-    let e = equalizerStep s rain n (t .tape .equalizer) (saturated drive (f .out)) in
+    let e = equalizerStep s rain n (t .tape .equalizer) (saturatedOver (t .tape .drive) (t .tape .top) (f .out)) in
     let k = duckedStepOn (r .duck) (s .ducked) d n (duckOn (t .tape .duck) (t .counts)) (e .out) in
     record {
-      next = tapeOn (record { tone = f .next .tone; equalizer = e .next; duck = k .next .duck }) (f .next .ring) (k .next .part);
+      next =
+          tapeOn (record { tone = f .next .tone; equalizer = e .next; duck = k .next .duck; drive = t .tape .drive; top = t .tape .top; until = t .tape .until })
+          (f .next .ring)
+          (k .next .part);
       out = k .out;
     }
 
--- the tone tuned to a corner
-abbrev pub tuned : TapeRate → Float → Tape → Tape
-tuned r corner t = record { tone = lowpassRetuned (t .tone) corner (r .hz); equalizer = t .equalizer; duck = t .duck }
+-- tuned to the corner and the drive of the sample at n, for as many samples as have them
+unfoldable pub tunedAfresh : TapeRate → Tone → Ramp → List ℕ → List Float → ℕ → Tape → Tape
+tunedAfresh r tone daylight positions values n t =
+    let p = pieceAt tone daylight positions values n in
+    record {
+      tone = lowpassRetuned (t .tone) (p .tuning .corner) (r .hz);
+      equalizer = t .equalizer;
+      duck = t .duck;
+      drive = p .tuning .drive;
+      top = TANH (p .tuning .drive);
+      until = n + p .len;
+    }
+
+-- a tuning is kept as long as it lasts
+unfoldable pub tunedAt : TapeRate → Tone → Ramp → List ℕ → List Float → ℕ → Tape → Tape
+tunedAt r tone daylight positions values n t = cond (ltb n (t .until)) t (tunedAfresh r tone daylight positions values n t)
+
+-- with a tuning that holds for no position
+abbrev pub untuned : Tape → Tape
+untuned t = record { tone = t .tone; equalizer = t .equalizer; duck = t .duck; drive = t .drive; top = t .top; until = 0 }
 
 -- tuned for the sample's own position
 unfoldable pub tapeStepOn : TapeRate → TapeSetup → Ramp → Ramp → Lists → Bool → Stage TapeIn Float Float
 tapeStepOn r s daylight rain l d n t x =
-    let tuning = tuningAt (s .tone) daylight (l .positions) (l .values) n in
-    tapeTuned r s rain (tuning .drive) d n (tapeOn (tuned r (tuning .corner) (t .tape)) (t .ring) (t .counts)) x
+    tapeTuned r s rain d n (tapeOn (tunedAt r (s .tone) daylight (l .positions) (l .values) n (t .tape)) (t .ring) (t .counts)) x
 
 unfoldable pub tapeAtRestOn : Lowpass → Equalizer → List Float → Bool
 tapeAtRestOn tone e ring = lowpassAtRest tone && (equalizerAtRest e && allZero ring)

@@ -3,10 +3,9 @@ use Prim.Native.Nat.{ℕ}
 use mathlib.Core.Bool.{Bool, true, false, cond, _&&_}
 use mathlib.Core.List.{List}
 use lib.ListN.{replicate}
-use lib.Ieee.{Float, binary32, ofBits, add, mul}
-use Rattle.casts.specs.Arithmetic.{_⊕_, _⊖_, _⊗_, _⊘_, whole, nought, one}
-use Rattle.casts.specs.Cast.{narrowed, floored}
-use Rattle.elementary.specs.Elementary.{SIN, SIN32, TANH, TAU}
+use lib.Ieee.{Float, binary32, ofBits}
+use Rattle.casts.specs.Arithmetic.{_⊕_, _⊗_, _⊘_, nought}
+use Rattle.elementary.specs.Elementary.{TANH}
 use Rattle.stage.specs.Stage.{Stage, identity}
 use Rattle.onepole.specs.OnePole.{tiltStep, tiltLift, liftOf, onePoleAtRest}
 use Rattle.biquad.specs.declared.Lowpass.{Lowpass}
@@ -18,28 +17,12 @@ use Rattle.ramp.specs.declared.Ramp.{Ramp}
 use Rattle.ramp.specs.Ramp.{rampAt}
 use Rattle.rate.specs.declared.TapeRate.{TapeRate}
 use Rattle.automation.specs.Automation.{tuningAt}
-use Rattle.duck.specs.declared.DuckRate.{DuckRate}
-use Rattle.duck.specs.Sidechain.{duckStep, unmarked}
-use Rattle.tape.specs.declared.Pad.{Pad}
-use Rattle.tape.specs.declared.Pad.the-variants.{Without, Swell}
+use Rattle.sidechain.specs.declared.DuckRate.{DuckRate}
+use Rattle.duck.specs.Duck.{duckStep, unmarked}
+use Rattle.oscillators.specs.Oscillators.{swellOf, warpDelay}
 use Rattle.tape.specs.declared.TapeSetup.{TapeSetup}
 use Rattle.tape.specs.declared.Equalizer.{Equalizer}
 use Rattle.tape.specs.declared.Tape.{Tape}
-
--- "Times the product swell · gain in, swell being 1 without a pad." The phase is reduced to one cycle before it is narrowed
-unfoldable pub phaseOf : ℕ → Float → ℕ → Float
-phaseOf rate hz n =
-    let cycles = hz ⊗ whole n ⊘ whole rate in
-    narrowed (TAU ⊗ (cycles ⊖ floored cycles))
-
--- in f32: 1 + depth · sin(phase)
-unfoldable pub swellOf : ℕ → Pad → ℕ → Float
-swellOf rate Without n = one
-swellOf rate (Swell hz depth) n = add binary32 one (mul binary32 depth (SIN32 (phaseOf rate hz n)))
-
--- "Warp read at a delay of reach less each a·SIN(w·n) in turn, in table order"
-unfoldable pub warpDelay : TapeRate → ℕ → Float
-warpDelay r n = r .reach ⊖ r .wow .a ⊗ SIN (r .wow .w ⊗ whole n) ⊖ r .flutter .a ⊗ SIN (r .flutter .w ⊗ whole n)
 
 -- "TANH(x·drive)/TANH(drive)."
 unfoldable pub saturated : Float → Float → Float
@@ -104,7 +87,15 @@ freshEqualizer r =
     }
 
 unfoldable pub freshTape : TapeRate → ℕ → Tape
-freshTape r kicks = record { tone = freshTone; equalizer = freshEqualizer r; duck = record { count = kicks; reached = 0; ducking = 0 } }
+freshTape r kicks =
+    record {
+      tone = freshTone;
+      equalizer = freshEqualizer r;
+      duck = record { count = kicks; reached = 0; ducking = 0 };
+      drive = nought;
+      top = nought;
+      until = 0;
+    }
 
 unfoldable pub freshTapeMachine : TapeRate → List ℕ → TapeMachine
 freshTapeMachine r kicks = record { tone = freshTone; warp = replicate (r .warp .ring) nought; equalizer = freshEqualizer r; marks = unmarked kicks }

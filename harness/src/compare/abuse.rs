@@ -35,6 +35,9 @@ const UNIT: u64 = 1 << 40;
 /// Places of the packed strip (crates/packing/specs/Packing.antt) and of the stores (docs/DECISIONS.md, 'Layout').
 const QUEUE_HEAD: usize = 16;
 const QUEUE_LEN: usize = 17;
+const UNTIL: usize = 18;
+const DRIVE: usize = 85;
+const TOP: usize = 86;
 const NEEDS_AT: usize = 64 + 47_104;
 const QUEUE: usize = 883;
 const STEPS_AT: usize = 2_048 + QUEUE;
@@ -56,7 +59,7 @@ fn field(rng: &mut Rng, setup: &Setup) -> Field {
         passed: bits(&[0.0, -0.0, 1.0, 0.5]),
     };
     let kicks = setup.kicks.len() as u64;
-    match rng.below(12) {
+    match rng.below(14) {
         0 => word(0, &[OVER, u64::MAX], &[0, 1, 31, (1 << 32) - 1, 1 << 32]),
         1 => word(rng.pick(&[6, 7, 9, 10]), &[OVER, u64::MAX], &[0, 1 << 32]),
         2 => word(rng.pick(&[13, 14]), &[kicks + 1, u64::MAX], &[0, kicks]),
@@ -76,6 +79,13 @@ fn field(rng: &mut Rng, setup: &Setup) -> Field {
             place: Place::Number(rng.pick(&[8, 9])),
             declined: bits(&[0.1, 1e-300, f64::NAN, 1.5, -1e-45]),
             passed: bits(&[0.0, -0.0, 1.0, 0.5, f64::from(1e-45f32)]),
+        },
+        // the tuning, of which 4 asks nothing
+        11 => word(UNTIL, &[], &[0, OVER, u64::MAX]),
+        12 => Field {
+            place: Place::Number(rng.pick(&[DRIVE, TOP])),
+            declined: Vec::new(),
+            passed: bits(&[f64::NAN, -0.0, 1e300, f64::INFINITY]),
         },
         _ => Field {
             place: Place::Number(rng.pick(&[6, 7])),

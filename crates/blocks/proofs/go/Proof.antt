@@ -3,18 +3,11 @@ use native.Mathlib.Omega.{arith}
 use mathlib.Core.Path.{_≡_, refl, ap, _∙_}
 use Prim.Native.Nat.{_-_}
 use lib.ListN.{length}
-use Rattle.automation.specs.declared.Piece.{Piece}
-use Rattle.automation.specs.Pieces.{pieceAt}
-use Rattle.automation.proofs.Span.{span-some, span-most}
+use Rattle.tape.proofs.Lasting.{tuned-some}
 use Rattle.strip.specs.Calls.{state, listsIn}
 use Rattle.blocks.proofs.Going.{Going, go-start, go-turn, go-done}
 use Rattle.blocks.proofs.go.Statement.{statement}
 use Rattle.blocks.proofs.go.Tie as tie
-use Rattle.blocks.proofs.go.Reads as reads
-use Rattle.blocks.proofs.go.Lts as lts
-use Rattle.blocks.proofs.block.Reads as block-reads
-use Rattle.blocks.proofs.least.Reads as least-reads
-use Rattle.blocks.proofs.piece.Reads as piece-reads
 
 abbrev Inv-loop : tie.InvT-loop
 Inv-loop rate samples drums frames₀ gains₀ store₀ counts₀ strip₀ i₀ frames gains store counts strip i =
@@ -28,108 +21,98 @@ loop-holds : tie.Need-loop-holds Inv-loop μ-loop
 loop-holds c = let s = c .before .before .before .before .before in
     (go-start (s .args .rate) (s .pre .0) (s .args .drums) (state (s .args .strip) (s .args .store .now) (s .args .counts .now)) (s .args .samples .now) (s .args .frames .now) (s .args .gains .now) (s .pre .1 .0) (s .pre .1 .1 .1 .0) (s .pre .1 .1 .1 .1), (refl, refl, refl, refl))
 
-piece-requires : tie.Need-piece-requires Inv-loop μ-loop
-piece-requires c κs = (c .before .before .before .before .before .before .before .before .before .pre .0, c .before .before .before .loop .inv .0 .runs)
+tuned-requires : tie.Need-tuned-requires Inv-loop μ-loop
+tuned-requires c κs = let s = c .before .before .before .before .before .before .before .before .before in
+    let l = c .before .before .before .loop in
+    (s .pre .0, (l .inv .0 .runs, omega (arith, l .inv .0 .place, c .before .before .loop-test .taken, s .pre .1 .1 .0)))
 
-sub-least : tie.Need-sub-least Inv-loop μ-loop
-sub-least c = search needs
+sub-block-len : tie.Need-sub-block-len Inv-loop μ-loop
+sub-block-len c = search needs
 
-least-requires : tie.Need-least-requires Inv-loop μ-loop
-least-requires c κs = search needs
+block-len-requires : tie.Need-block-len-requires Inv-loop μ-loop
+block-len-requires c κs = let s = c .before .before .before .before .before .before .before .before .before .before in
+    let l = c .before .before .before .before .loop in
+    let lists = listsIn (s .args .rate) (state (l .strip) (l .store) (l .counts)) in
+    (rw (c .tuned .ensures) (tuned-some (s .args .rate .tape) (l .strip .setup .tape .tone) (l .strip .daylight) (lists .positions) (lists .values) (l .strip .position) (l .strip .tape)), omega (arith, c .before .before .before .loop-test .taken))
 
 add-e : tie.Need-add-e Inv-loop μ-loop
-add-e c = omega (arith, c .before .before .before .before .loop-test .taken, c .before .before .before .before .before .loop .inv .1 .0, c .before .before .before .before .before .loop .inv .1 .1, c .before .before .before .before .before .before .before .before .before .before .before .pre .1 .1 .1 .0, c .before .before .before .before .before .before .before .before .before .before .before .pre .1 .1 .1 .1, c .before .before .before .before .before .before .before .before .before .before .before .good .1 .1 .0 .1, c .before .before .before .before .before .before .before .before .before .before .before .good .1 .1 .1 .1 .0 .1, c .before .before .before .before .before .before .before .before .before .before .before .good .1 .1 .1 .1 .1 .0 .1, c .least .ensures .1)
+add-e c = omega (arith, c .before .before .before .before .loop-test .taken, c .before .before .before .before .before .loop .inv .1 .0, c .before .before .before .before .before .loop .inv .1 .1, c .before .before .before .before .before .before .before .before .before .before .before .pre .1 .1 .1 .0, c .before .before .before .before .before .before .before .before .before .before .before .pre .1 .1 .1 .1, c .before .before .before .before .before .before .before .before .before .before .before .good .1 .1 .0 .1, c .before .before .before .before .before .before .before .before .before .before .before .good .1 .1 .1 .1 .0 .1, c .before .before .before .before .before .before .before .before .before .before .before .good .1 .1 .1 .1 .1 .0 .1, c .block-len .ensures .2)
 
 mul-from : tie.Need-mul-from Inv-loop μ-loop
-mul-from c = omega (arith, c .before .before .before .before .loop-test .taken, c .before .before .before .before .before .loop .inv .1 .0, c .before .before .before .before .before .loop .inv .1 .1, c .before .before .before .before .before .before .before .before .before .before .before .pre .1 .1 .1 .0, c .before .before .before .before .before .before .before .before .before .before .before .pre .1 .1 .1 .1, c .before .before .before .before .before .before .before .before .before .before .before .good .1 .1 .0 .1, c .before .before .before .before .before .before .before .before .before .before .before .good .1 .1 .1 .1 .0 .1, c .before .before .before .before .before .before .before .before .before .before .before .good .1 .1 .1 .1 .1 .0 .1, c .least .ensures .1)
+mul-from c = omega (arith, c .before .before .before .before .loop-test .taken, c .before .before .before .before .before .loop .inv .1 .0, c .before .before .before .before .before .loop .inv .1 .1, c .before .before .before .before .before .before .before .before .before .before .before .pre .1 .1 .1 .0, c .before .before .before .before .before .before .before .before .before .before .before .pre .1 .1 .1 .1, c .before .before .before .before .before .before .before .before .before .before .before .good .1 .1 .0 .1, c .before .before .before .before .before .before .before .before .before .before .before .good .1 .1 .1 .1 .0 .1, c .before .before .before .before .before .before .before .before .before .before .before .good .1 .1 .1 .1 .1 .0 .1, c .block-len .ensures .2)
 
 mul-to : tie.Need-mul-to Inv-loop μ-loop
-mul-to c = omega (arith, c .before .before .before .before .loop-test .taken, c .before .before .before .before .before .loop .inv .1 .0, c .before .before .before .before .before .loop .inv .1 .1, c .before .before .before .before .before .before .before .before .before .before .before .pre .1 .1 .1 .0, c .before .before .before .before .before .before .before .before .before .before .before .pre .1 .1 .1 .1, c .before .before .before .before .before .before .before .before .before .before .before .good .1 .1 .0 .1, c .before .before .before .before .before .before .before .before .before .before .before .good .1 .1 .1 .1 .0 .1, c .before .before .before .before .before .before .before .before .before .before .before .good .1 .1 .1 .1 .1 .0 .1, c .least .ensures .1)
+mul-to c = omega (arith, c .before .before .before .before .loop-test .taken, c .before .before .before .before .before .loop .inv .1 .0, c .before .before .before .before .before .loop .inv .1 .1, c .before .before .before .before .before .before .before .before .before .before .before .pre .1 .1 .1 .0, c .before .before .before .before .before .before .before .before .before .before .before .pre .1 .1 .1 .1, c .before .before .before .before .before .before .before .before .before .before .before .good .1 .1 .0 .1, c .before .before .before .before .before .before .before .before .before .before .before .good .1 .1 .1 .1 .0 .1, c .before .before .before .before .before .before .before .before .before .before .before .good .1 .1 .1 .1 .1 .0 .1, c .block-len .ensures .2)
 
 mul-block : tie.Need-mul-block Inv-loop μ-loop
-mul-block c = omega (arith, c .before .before .before .before .before .loop-test .taken, c .before .before .before .before .before .before .loop .inv .1 .0, c .before .before .before .before .before .before .loop .inv .1 .1, c .before .before .before .before .before .before .before .before .before .before .before .before .pre .1 .1 .1 .0, c .before .before .before .before .before .before .before .before .before .before .before .before .pre .1 .1 .1 .1, c .before .before .before .before .before .before .before .before .before .before .before .before .good .1 .1 .0 .1, c .before .before .before .before .before .before .before .before .before .before .before .before .good .1 .1 .1 .1 .0 .1, c .before .before .before .before .before .before .before .before .before .before .before .before .good .1 .1 .1 .1 .1 .0 .1, c .before .least .ensures .1)
+mul-block c = omega (arith, c .before .before .before .before .loop-test .taken, c .before .before .before .before .before .loop .inv .1 .0, c .before .before .before .before .before .loop .inv .1 .1, c .before .before .before .before .before .before .before .before .before .before .before .pre .1 .1 .1 .0, c .before .before .before .before .before .before .before .before .before .before .before .pre .1 .1 .1 .1, c .before .before .before .before .before .before .before .before .before .before .before .good .1 .1 .0 .1, c .before .before .before .before .before .before .before .before .before .before .before .good .1 .1 .1 .1 .0 .1, c .before .before .before .before .before .before .before .before .before .before .before .good .1 .1 .1 .1 .1 .0 .1, c .block-len .ensures .2)
 
 sub-block : tie.Need-sub-block Inv-loop μ-loop
-sub-block c = omega (arith, c .before .before .before .before .before .loop-test .taken, c .before .before .before .before .before .before .loop .inv .1 .0, c .before .before .before .before .before .before .loop .inv .1 .1, c .before .before .before .before .before .before .before .before .before .before .before .before .pre .1 .1 .1 .0, c .before .before .before .before .before .before .before .before .before .before .before .before .pre .1 .1 .1 .1, c .before .before .before .before .before .before .before .before .before .before .before .before .good .1 .1 .0 .1, c .before .before .before .before .before .before .before .before .before .before .before .before .good .1 .1 .1 .1 .0 .1, c .before .before .before .before .before .before .before .before .before .before .before .before .good .1 .1 .1 .1 .1 .0 .1, c .before .least .ensures .1)
+sub-block c = omega (arith, c .before .before .before .before .loop-test .taken, c .before .before .before .before .before .loop .inv .1 .0, c .before .before .before .before .before .loop .inv .1 .1, c .before .before .before .before .before .before .before .before .before .before .before .pre .1 .1 .1 .0, c .before .before .before .before .before .before .before .before .before .before .before .pre .1 .1 .1 .1, c .before .before .before .before .before .before .before .before .before .before .before .good .1 .1 .0 .1, c .before .before .before .before .before .before .before .before .before .before .before .good .1 .1 .1 .1 .0 .1, c .before .before .before .before .before .before .before .before .before .before .before .good .1 .1 .1 .1 .1 .0 .1, c .block-len .ensures .2)
 
 part-block-start : tie.Need-part-block-start Inv-loop μ-loop
-part-block-start c = omega (arith, c .before .before .before .before .before .loop-test .taken, c .before .before .before .before .before .before .loop .inv .1 .0, c .before .before .before .before .before .before .loop .inv .1 .1, c .before .before .before .before .before .before .before .before .before .before .before .before .pre .1 .1 .1 .0, c .before .before .before .before .before .before .before .before .before .before .before .before .pre .1 .1 .1 .1, c .before .before .before .before .before .before .before .before .before .before .before .before .good .1 .1 .0 .1, c .before .before .before .before .before .before .before .before .before .before .before .before .good .1 .1 .1 .1 .0 .1, c .before .before .before .before .before .before .before .before .before .before .before .before .good .1 .1 .1 .1 .1 .0 .1, c .before .least .ensures .1)
+part-block-start c = omega (arith, c .before .before .before .before .loop-test .taken, c .before .before .before .before .before .loop .inv .1 .0, c .before .before .before .before .before .loop .inv .1 .1, c .before .before .before .before .before .before .before .before .before .before .before .pre .1 .1 .1 .0, c .before .before .before .before .before .before .before .before .before .before .before .pre .1 .1 .1 .1, c .before .before .before .before .before .before .before .before .before .before .before .good .1 .1 .0 .1, c .before .before .before .before .before .before .before .before .before .before .before .good .1 .1 .1 .1 .0 .1, c .before .before .before .before .before .before .before .before .before .before .before .good .1 .1 .1 .1 .1 .0 .1, c .block-len .ensures .2)
 
 part-block-end : tie.Need-part-block-end Inv-loop μ-loop
-part-block-end c = omega (arith, c .before .before .before .before .before .loop-test .taken, c .before .before .before .before .before .before .loop .inv .1 .0, c .before .before .before .before .before .before .loop .inv .1 .1, c .before .before .before .before .before .before .before .before .before .before .before .before .pre .1 .1 .1 .0, c .before .before .before .before .before .before .before .before .before .before .before .before .pre .1 .1 .1 .1, c .before .before .before .before .before .before .before .before .before .before .before .before .good .1 .1 .0 .1, c .before .before .before .before .before .before .before .before .before .before .before .before .good .1 .1 .1 .1 .0 .1, c .before .before .before .before .before .before .before .before .before .before .before .before .good .1 .1 .1 .1 .1 .0 .1, c .before .least .ensures .1)
+part-block-end c = omega (arith, c .before .before .before .before .loop-test .taken, c .before .before .before .before .before .loop .inv .1 .0, c .before .before .before .before .before .loop .inv .1 .1, c .before .before .before .before .before .before .before .before .before .before .before .pre .1 .1 .1 .0, c .before .before .before .before .before .before .before .before .before .before .before .pre .1 .1 .1 .1, c .before .before .before .before .before .before .before .before .before .before .before .good .1 .1 .0 .1, c .before .before .before .before .before .before .before .before .before .before .before .good .1 .1 .1 .1 .0 .1, c .before .before .before .before .before .before .before .before .before .before .before .good .1 .1 .1 .1 .1 .0 .1, c .block-len .ensures .2)
 
 mul-block-2 : tie.Need-mul-block-2 Inv-loop μ-loop
-mul-block-2 c = omega (arith, c .before .before .before .before .before .before .loop-test .taken, c .before .before .before .before .before .before .before .loop .inv .1 .0, c .before .before .before .before .before .before .before .loop .inv .1 .1, c .before .before .before .before .before .before .before .before .before .before .before .before .before .pre .1 .1 .1 .0, c .before .before .before .before .before .before .before .before .before .before .before .before .before .pre .1 .1 .1 .1, c .before .before .before .before .before .before .before .before .before .before .before .before .before .good .1 .1 .0 .1, c .before .before .before .before .before .before .before .before .before .before .before .before .before .good .1 .1 .1 .1 .0 .1, c .before .before .before .before .before .before .before .before .before .before .before .before .before .good .1 .1 .1 .1 .1 .0 .1, c .before .before .least .ensures .1)
+mul-block-2 c = omega (arith, c .before .before .before .before .before .loop-test .taken, c .before .before .before .before .before .before .loop .inv .1 .0, c .before .before .before .before .before .before .loop .inv .1 .1, c .before .before .before .before .before .before .before .before .before .before .before .before .pre .1 .1 .1 .0, c .before .before .before .before .before .before .before .before .before .before .before .before .pre .1 .1 .1 .1, c .before .before .before .before .before .before .before .before .before .before .before .before .good .1 .1 .0 .1, c .before .before .before .before .before .before .before .before .before .before .before .before .good .1 .1 .1 .1 .0 .1, c .before .before .before .before .before .before .before .before .before .before .before .before .good .1 .1 .1 .1 .1 .0 .1, c .before .block-len .ensures .2)
 
 sub-block-2 : tie.Need-sub-block-2 Inv-loop μ-loop
-sub-block-2 c = omega (arith, c .before .before .before .before .before .before .loop-test .taken, c .before .before .before .before .before .before .before .loop .inv .1 .0, c .before .before .before .before .before .before .before .loop .inv .1 .1, c .before .before .before .before .before .before .before .before .before .before .before .before .before .pre .1 .1 .1 .0, c .before .before .before .before .before .before .before .before .before .before .before .before .before .pre .1 .1 .1 .1, c .before .before .before .before .before .before .before .before .before .before .before .before .before .good .1 .1 .0 .1, c .before .before .before .before .before .before .before .before .before .before .before .before .before .good .1 .1 .1 .1 .0 .1, c .before .before .before .before .before .before .before .before .before .before .before .before .before .good .1 .1 .1 .1 .1 .0 .1, c .before .before .least .ensures .1)
+sub-block-2 c = omega (arith, c .before .before .before .before .before .loop-test .taken, c .before .before .before .before .before .before .loop .inv .1 .0, c .before .before .before .before .before .before .loop .inv .1 .1, c .before .before .before .before .before .before .before .before .before .before .before .before .pre .1 .1 .1 .0, c .before .before .before .before .before .before .before .before .before .before .before .before .pre .1 .1 .1 .1, c .before .before .before .before .before .before .before .before .before .before .before .before .good .1 .1 .0 .1, c .before .before .before .before .before .before .before .before .before .before .before .before .good .1 .1 .1 .1 .0 .1, c .before .before .before .before .before .before .before .before .before .before .before .before .good .1 .1 .1 .1 .1 .0 .1, c .before .block-len .ensures .2)
 
 part-block-start-2 : tie.Need-part-block-start-2 Inv-loop μ-loop
-part-block-start-2 c = omega (arith, c .before .before .before .before .before .before .loop-test .taken, c .before .before .before .before .before .before .before .loop .inv .1 .0, c .before .before .before .before .before .before .before .loop .inv .1 .1, c .before .before .before .before .before .before .before .before .before .before .before .before .before .pre .1 .1 .1 .0, c .before .before .before .before .before .before .before .before .before .before .before .before .before .pre .1 .1 .1 .1, c .before .before .before .before .before .before .before .before .before .before .before .before .before .good .1 .1 .0 .1, c .before .before .before .before .before .before .before .before .before .before .before .before .before .good .1 .1 .1 .1 .0 .1, c .before .before .before .before .before .before .before .before .before .before .before .before .before .good .1 .1 .1 .1 .1 .0 .1, c .before .before .least .ensures .1)
+part-block-start-2 c = omega (arith, c .before .before .before .before .before .loop-test .taken, c .before .before .before .before .before .before .loop .inv .1 .0, c .before .before .before .before .before .before .loop .inv .1 .1, c .before .before .before .before .before .before .before .before .before .before .before .before .pre .1 .1 .1 .0, c .before .before .before .before .before .before .before .before .before .before .before .before .pre .1 .1 .1 .1, c .before .before .before .before .before .before .before .before .before .before .before .before .good .1 .1 .0 .1, c .before .before .before .before .before .before .before .before .before .before .before .before .good .1 .1 .1 .1 .0 .1, c .before .before .before .before .before .before .before .before .before .before .before .before .good .1 .1 .1 .1 .1 .0 .1, c .before .block-len .ensures .2)
 
 part-block-end-2 : tie.Need-part-block-end-2 Inv-loop μ-loop
-part-block-end-2 c = omega (arith, c .before .before .before .before .before .before .loop-test .taken, c .before .before .before .before .before .before .before .loop .inv .1 .0, c .before .before .before .before .before .before .before .loop .inv .1 .1, c .before .before .before .before .before .before .before .before .before .before .before .before .before .pre .1 .1 .1 .0, c .before .before .before .before .before .before .before .before .before .before .before .before .before .pre .1 .1 .1 .1, c .before .before .before .before .before .before .before .before .before .before .before .before .before .good .1 .1 .0 .1, c .before .before .before .before .before .before .before .before .before .before .before .before .before .good .1 .1 .1 .1 .0 .1, c .before .before .before .before .before .before .before .before .before .before .before .before .before .good .1 .1 .1 .1 .1 .0 .1, c .before .before .least .ensures .1)
+part-block-end-2 c = omega (arith, c .before .before .before .before .before .loop-test .taken, c .before .before .before .before .before .before .loop .inv .1 .0, c .before .before .before .before .before .before .loop .inv .1 .1, c .before .before .before .before .before .before .before .before .before .before .before .before .pre .1 .1 .1 .0, c .before .before .before .before .before .before .before .before .before .before .before .before .pre .1 .1 .1 .1, c .before .before .before .before .before .before .before .before .before .before .before .before .good .1 .1 .0 .1, c .before .before .before .before .before .before .before .before .before .before .before .before .good .1 .1 .1 .1 .0 .1, c .before .before .before .before .before .before .before .before .before .before .before .before .good .1 .1 .1 .1 .1 .0 .1, c .before .block-len .ensures .2)
 
 mul-block-3 : tie.Need-mul-block-3 Inv-loop μ-loop
-mul-block-3 c = omega (arith, c .before .before .before .before .before .before .before .loop-test .taken, c .before .before .before .before .before .before .before .before .loop .inv .1 .0, c .before .before .before .before .before .before .before .before .loop .inv .1 .1, c .before .before .before .before .before .before .before .before .before .before .before .before .before .before .pre .1 .1 .1 .0, c .before .before .before .before .before .before .before .before .before .before .before .before .before .before .pre .1 .1 .1 .1, c .before .before .before .before .before .before .before .before .before .before .before .before .before .before .good .1 .1 .0 .1, c .before .before .before .before .before .before .before .before .before .before .before .before .before .before .good .1 .1 .1 .1 .0 .1, c .before .before .before .before .before .before .before .before .before .before .before .before .before .before .good .1 .1 .1 .1 .1 .0 .1, c .before .before .before .least .ensures .1)
+mul-block-3 c = omega (arith, c .before .before .before .before .before .before .loop-test .taken, c .before .before .before .before .before .before .before .loop .inv .1 .0, c .before .before .before .before .before .before .before .loop .inv .1 .1, c .before .before .before .before .before .before .before .before .before .before .before .before .before .pre .1 .1 .1 .0, c .before .before .before .before .before .before .before .before .before .before .before .before .before .pre .1 .1 .1 .1, c .before .before .before .before .before .before .before .before .before .before .before .before .before .good .1 .1 .0 .1, c .before .before .before .before .before .before .before .before .before .before .before .before .before .good .1 .1 .1 .1 .0 .1, c .before .before .before .before .before .before .before .before .before .before .before .before .before .good .1 .1 .1 .1 .1 .0 .1, c .before .before .block-len .ensures .2)
 
 sub-block-3 : tie.Need-sub-block-3 Inv-loop μ-loop
-sub-block-3 c = omega (arith, c .before .before .before .before .before .before .before .loop-test .taken, c .before .before .before .before .before .before .before .before .loop .inv .1 .0, c .before .before .before .before .before .before .before .before .loop .inv .1 .1, c .before .before .before .before .before .before .before .before .before .before .before .before .before .before .pre .1 .1 .1 .0, c .before .before .before .before .before .before .before .before .before .before .before .before .before .before .pre .1 .1 .1 .1, c .before .before .before .before .before .before .before .before .before .before .before .before .before .before .good .1 .1 .0 .1, c .before .before .before .before .before .before .before .before .before .before .before .before .before .before .good .1 .1 .1 .1 .0 .1, c .before .before .before .before .before .before .before .before .before .before .before .before .before .before .good .1 .1 .1 .1 .1 .0 .1, c .before .before .before .least .ensures .1)
+sub-block-3 c = omega (arith, c .before .before .before .before .before .before .loop-test .taken, c .before .before .before .before .before .before .before .loop .inv .1 .0, c .before .before .before .before .before .before .before .loop .inv .1 .1, c .before .before .before .before .before .before .before .before .before .before .before .before .before .pre .1 .1 .1 .0, c .before .before .before .before .before .before .before .before .before .before .before .before .before .pre .1 .1 .1 .1, c .before .before .before .before .before .before .before .before .before .before .before .before .before .good .1 .1 .0 .1, c .before .before .before .before .before .before .before .before .before .before .before .before .before .good .1 .1 .1 .1 .0 .1, c .before .before .before .before .before .before .before .before .before .before .before .before .before .good .1 .1 .1 .1 .1 .0 .1, c .before .before .block-len .ensures .2)
 
 part-block-start-3 : tie.Need-part-block-start-3 Inv-loop μ-loop
-part-block-start-3 c = omega (arith, c .before .before .before .before .before .before .before .loop-test .taken, c .before .before .before .before .before .before .before .before .loop .inv .1 .0, c .before .before .before .before .before .before .before .before .loop .inv .1 .1, c .before .before .before .before .before .before .before .before .before .before .before .before .before .before .pre .1 .1 .1 .0, c .before .before .before .before .before .before .before .before .before .before .before .before .before .before .pre .1 .1 .1 .1, c .before .before .before .before .before .before .before .before .before .before .before .before .before .before .good .1 .1 .0 .1, c .before .before .before .before .before .before .before .before .before .before .before .before .before .before .good .1 .1 .1 .1 .0 .1, c .before .before .before .before .before .before .before .before .before .before .before .before .before .before .good .1 .1 .1 .1 .1 .0 .1, c .before .before .before .least .ensures .1)
+part-block-start-3 c = omega (arith, c .before .before .before .before .before .before .loop-test .taken, c .before .before .before .before .before .before .before .loop .inv .1 .0, c .before .before .before .before .before .before .before .loop .inv .1 .1, c .before .before .before .before .before .before .before .before .before .before .before .before .before .pre .1 .1 .1 .0, c .before .before .before .before .before .before .before .before .before .before .before .before .before .pre .1 .1 .1 .1, c .before .before .before .before .before .before .before .before .before .before .before .before .before .good .1 .1 .0 .1, c .before .before .before .before .before .before .before .before .before .before .before .before .before .good .1 .1 .1 .1 .0 .1, c .before .before .before .before .before .before .before .before .before .before .before .before .before .good .1 .1 .1 .1 .1 .0 .1, c .before .before .block-len .ensures .2)
 
 part-block-end-3 : tie.Need-part-block-end-3 Inv-loop μ-loop
-part-block-end-3 c = omega (arith, c .before .before .before .before .before .before .before .loop-test .taken, c .before .before .before .before .before .before .before .before .loop .inv .1 .0, c .before .before .before .before .before .before .before .before .loop .inv .1 .1, c .before .before .before .before .before .before .before .before .before .before .before .before .before .before .pre .1 .1 .1 .0, c .before .before .before .before .before .before .before .before .before .before .before .before .before .before .pre .1 .1 .1 .1, c .before .before .before .before .before .before .before .before .before .before .before .before .before .before .good .1 .1 .0 .1, c .before .before .before .before .before .before .before .before .before .before .before .before .before .before .good .1 .1 .1 .1 .0 .1, c .before .before .before .before .before .before .before .before .before .before .before .before .before .before .good .1 .1 .1 .1 .1 .0 .1, c .before .before .before .least .ensures .1)
+part-block-end-3 c = omega (arith, c .before .before .before .before .before .before .loop-test .taken, c .before .before .before .before .before .before .before .loop .inv .1 .0, c .before .before .before .before .before .before .before .loop .inv .1 .1, c .before .before .before .before .before .before .before .before .before .before .before .before .before .pre .1 .1 .1 .0, c .before .before .before .before .before .before .before .before .before .before .before .before .before .pre .1 .1 .1 .1, c .before .before .before .before .before .before .before .before .before .before .before .before .before .good .1 .1 .0 .1, c .before .before .before .before .before .before .before .before .before .before .before .before .before .good .1 .1 .1 .1 .0 .1, c .before .before .before .before .before .before .before .before .before .before .before .before .before .good .1 .1 .1 .1 .1 .0 .1, c .before .before .block-len .ensures .2)
 
 block-requires : tie.Need-block-requires Inv-loop μ-loop
-unfolding pieceAt
-block-requires c κs = let s = c .before .before .before .before .before .before .before .before .before .before .before .before .before .before .before .before .before in
-    let l = c .before .before .before .before .before .before .before .before .before .before .before .loop in
-    let q = c .before .before .before .before .before .before .before .piece .ensures in
-    let m = c .before .before .before .before .before .before .least .ensures in
-    let tuning = ap (λ (v : Piece). v .tuning) q in
-    let len = ap (λ (v : Piece). v .len) q in
+block-requires c κs = let s = c .before .before .before .before .before .before .before .before .before .before .before .before .before .before .before .before in
+    let l = c .before .before .before .before .before .before .before .before .before .before .loop in
+    let q = c .before .before .before .before .before .before .tuned .ensures in
+    let m = c .before .before .before .before .before .block-len .ensures in
     let k = c .before .before .before .before .block-arg .given .2 in
-    let h = c .before .before .before .before .before .before .before .before .before .before .loop-test .taken in
-    let place = l .inv .0 .place in
-    let some = span-some (l .strip .daylight) (listsIn (s .args .rate) (state (l .strip) (l .store) (l .counts)) .positions) (l .strip .position) in
-    let most = span-most (l .strip .daylight) (listsIn (s .args .rate) (state (l .strip) (l .store) (l .counts)) .positions) (l .strip .position) in
-    let more = m .2 (omega (arith, len, some)) (omega (arith, h)) in (
+    let h = c .before .before .before .before .before .before .before .before .before .loop-test .taken in (
       s .pre .0,
       (
         l .inv .0 .runs,
         (
-          tuning,
+          q,
           (
             record {
-              some = omega (arith, k, more);
-              few = omega (arith, k, m .0, len);
-              before = omega (arith, k, m .1, place, s .pre .1 .1 .0, h);
+              some = omega (arith, k, m .0);
+              few = let f = rw q at (m .1) in omega (arith, k, f);
+              before = omega (arith, k, m .2, l .inv .0 .place, s .pre .1 .1 .0, h);
             },
-            (omega (arith, k, m .0, len, most), omega (arith, k, c .before .before .before .block-arg2 .given .2), omega (arith, k, c .before .before .block-arg3 .given .2)),
+            (omega (arith, k, m .3), omega (arith, k, c .before .before .before .block-arg2 .given .2), omega (arith, k, c .before .before .block-arg3 .given .2)),
           ),
         ),
       ),
     )
 
 loop-less : tie.Need-loop-less Inv-loop μ-loop
-unfolding pieceAt
-loop-less c = let s = c .before .before .before .before .before .before .before .before .before .before .before .before .before .before .before .before .before .before .before .before .before .before .before .before .before .before in
-    let l = c .before .before .before .before .before .before .before .before .before .before .before .before .before .before .before .before .before .before .before .before .loop in
-    let m = c .before .before .before .before .before .before .before .before .before .before .before .before .before .before .before .least .ensures in
-    let h = c .before .before .before .before .before .before .before .before .before .before .before .before .before .before .before .before .before .before .before .loop-test .taken in
-    let len = ap (λ (v : Piece). v .len) (c .before .before .before .before .before .before .before .before .before .before .before .before .before .before .before .before .piece .ensures) in
-    let some = span-some (l .strip .daylight) (listsIn (s .args .rate) (state (l .strip) (l .store) (l .counts)) .positions) (l .strip .position) in
-    let more = m .2 (omega (arith, len, some)) (omega (arith, h)) in
-    omega (arith, h, more, m .1)
+loop-less c = let m = c .before .before .before .before .before .before .before .before .before .before .before .before .before .before .block-len .ensures in omega (arith, c .before .before .before .before .before .before .before .before .before .before .before .before .before .before .before .before .before .before .loop-test .taken, m .0, m .2)
 
 loop-again : tie.Need-loop-again Inv-loop μ-loop
-loop-again c = let s = c .before .before .before .before .before .before .before .before .before .before .before .before .before .before .before .before .before .before .before .before .before .before .before .before .before .before in
-    let l = c .before .before .before .before .before .before .before .before .before .before .before .before .before .before .before .before .before .before .before .before .loop in
+loop-again c = let s = c .before .before .before .before .before .before .before .before .before .before .before .before .before .before .before .before .before .before .before .before .before .before .before .before .before in
+    let l = c .before .before .before .before .before .before .before .before .before .before .before .before .before .before .before .before .before .before .before .loop in
     let k = c .before .before .before .before .before .before .before .before .block in
-    let m = c .before .before .before .before .before .before .before .before .before .before .before .before .before .before .before .least .ensures .1 in
-    let h = c .before .before .before .before .before .before .before .before .before .before .before .before .before .before .before .before .before .before .before .loop-test .taken in (
+    let m = c .before .before .before .before .before .before .before .before .before .before .before .before .before .before .block-len .ensures .2 in
+    let h = c .before .before .before .before .before .before .before .before .before .before .before .before .before .before .before .before .before .before .loop-test .taken in (
       go-turn (s .args .rate) (s .pre .0) (s .args .drums) (state (s .args .strip) (s .args .store .now) (s .args .counts .now)) (s .args .samples .now) (state (l .strip) (l .store) (l .counts)) (l .frames) (l .gains) (l .i) _ _ (l .inv .0)
           (omega arith) (omega (arith, m, h)) (k .ensures),
       (c .before .before .before .before .before .before .before .frames .given .1 ∙ l .inv .1 .0, c .before .before .before .before .before .gains .given .1 ∙ l .inv .1 .1, k .kept .1 .1 .1 .1 .1 .1 .1 .0 ∙ l .inv .1 .2, k .kept .1 .1 .1 .1 .1 .1 .1 .1 .0 ∙ l .inv .1 .3),
@@ -159,9 +142,9 @@ go-spec =
     Inv-loop
     μ-loop
     loop-holds
-    piece-requires
-    sub-least
-    least-requires
+    tuned-requires
+    sub-block-len
+    block-len-requires
     add-e
     mul-from
     mul-to

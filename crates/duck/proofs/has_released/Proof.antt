@@ -1,4 +1,4 @@
-use Rattle.duck.specs.Sidechain.{span}
+use Rattle.sidechain.specs.Sidechain.{span}
 use Rattle.duck.proofs.Loops.{released-test}
 use borrow.Author.Tests.{lt-leb}
 use native.Mathlib.Omega.{arith}

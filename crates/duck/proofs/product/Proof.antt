@@ -2,20 +2,19 @@ use borrow.Author.Needs.{needs}
 use mathlib.Core.Path.{_≡_, refl, _∙_}
 use Prim.Native.Nat.{_-_, _≤_}
 use lib.ListN.{drop}
-use Rattle.casts.specs.Arithmetic.{one}
 use Rattle.duck.specs.Cursors.{kicksIn, marksIn, timesUntil}
 use Rattle.duck.proofs.Loops.{times-more, times-stop, times-done}
 use Rattle.duck.proofs.product.Statement.{statement}
 use Rattle.duck.proofs.product.Tie as tie
 
 abbrev Inv-loop : tie.InvT-loop
-Inv-loop rate counts count ducking n gain₀ c₀ gain c =
+Inv-loop rate counts count from n gain₀ gain₁ c₀ gain c =
     (c ≤ count)
     × (timesUntil rate n gain (drop c (kicksIn count counts)) (drop c (marksIn count counts))
-    ≡ timesUntil rate n one (drop ducking (kicksIn count counts)) (drop ducking (marksIn count counts)))
+    ≡ timesUntil rate n gain₀ (drop from (kicksIn count counts)) (drop from (marksIn count counts)))
 
 abbrev μ-loop : tie.MeasureT-loop
-μ-loop rate counts count ducking n gain₀ c₀ gain c = count - c
+μ-loop rate counts count from n gain₀ gain₁ c₀ gain c = count - c
 
 loop-holds : tie.Need-loop-holds Inv-loop μ-loop
 loop-holds c = (search needs, refl)

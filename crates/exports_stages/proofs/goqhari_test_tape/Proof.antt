@@ -15,8 +15,8 @@ silence-requires c κs = search needs
 new-requires : tie.Need-new-requires
 new-requires c κs = search needs
 
-setup-of-requires : tie.Need-setup-of-requires
-setup-of-requires c κs = search needs
+tape-setup-of-requires : tie.Need-tape-setup-of-requires
+tape-setup-of-requires c κs = search needs
 
 fresh-lane-requires : tie.Need-fresh-lane-requires
 fresh-lane-requires c κs = search needs
@@ -47,7 +47,7 @@ goqhari-test-tape-spec =
     returns-2
     silence-requires
     new-requires
-    setup-of-requires
+    tape-setup-of-requires
     fresh-lane-requires
     all-called-requires
     at-rest-requires

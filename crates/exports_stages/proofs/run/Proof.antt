@@ -16,41 +16,38 @@ abbrev μ-loop : tie.MeasureT-loop
 loop-holds : tie.Need-loop-holds Inv-loop μ-loop
 loop-holds c = search needs
 
-add-piece-at : tie.Need-add-piece-at Inv-loop μ-loop
-add-piece-at c = search needs
-
-piece-at-requires : tie.Need-piece-at-requires Inv-loop μ-loop
-piece-at-requires c κs = search needs
-
-piece-end-requires : tie.Need-piece-end-requires Inv-loop μ-loop
-piece-end-requires c κs = search needs
-
-retuned-requires : tie.Need-retuned-requires Inv-loop μ-loop
-retuned-requires c κs = search needs
-
-mul-tuned : tie.Need-mul-tuned Inv-loop μ-loop
-mul-tuned c = omega (arith, c .before .before .before .before .before .before .loop .inv, c .before .before .before .before .before .loop-test, c .before .before .before .before .before .before .before .before .before .before .before .before .good)
-
-sub-tuned : tie.Need-sub-tuned Inv-loop μ-loop
-sub-tuned c = search needs
-
-part-tuned-start : tie.Need-part-tuned-start Inv-loop μ-loop
-part-tuned-start c = search needs
-
-part-tuned-end : tie.Need-part-tuned-end Inv-loop μ-loop
-part-tuned-end c = search needs
-
-add-tuned : tie.Need-add-tuned Inv-loop μ-loop
-add-tuned c = omega (arith, c .before .before .before .before .before .before .before .loop .inv, c .before .before .before .before .before .before .loop-test, c .before .before .before .before .before .before .before .before .before .before .before .before .before .pre, c .before .before .before .before .before .before .before .before .before .before .before .before .before .good)
+add-m : tie.Need-add-m Inv-loop μ-loop
+add-m c = search needs
 
 tuned-requires : tie.Need-tuned-requires Inv-loop μ-loop
 tuned-requires c κs = search needs
 
+lasting-requires : tie.Need-lasting-requires Inv-loop μ-loop
+lasting-requires c κs = search needs
+
+piece-end-requires : tie.Need-piece-end-requires Inv-loop μ-loop
+piece-end-requires c κs = search needs
+
+mul-passed : tie.Need-mul-passed Inv-loop μ-loop
+mul-passed c = omega (arith, c .before .before .before .before .before .before .loop .inv, c .before .before .before .before .before .loop-test, c .before .before .before .before .before .before .before .before .before .before .before .before .good)
+
+sub-passed : tie.Need-sub-passed Inv-loop μ-loop
+sub-passed c = search needs
+
+part-passed-start : tie.Need-part-passed-start Inv-loop μ-loop
+part-passed-start c = search needs
+
+part-passed-end : tie.Need-part-passed-end Inv-loop μ-loop
+part-passed-end c = search needs
+
+passed-requires : tie.Need-passed-requires Inv-loop μ-loop
+passed-requires c κs = search needs
+
 loop-less : tie.Need-loop-less Inv-loop μ-loop
-loop-less c = omega (arith, c .before .before .before .before .before .before .before .before .before .before .before .before .before .before .loop .inv, c .before .before .before .before .before .before .before .before .before .before .before .before .before .loop-test, c .before .before .before .before .before .before .before .before .before .before .before .piece-end)
+loop-less c = omega (arith, c .before .before .before .before .before .before .before .before .before .before .before .before .before .before .loop .inv, c .before .before .before .before .before .before .before .before .before .before .before .before .before .loop-test, c .before .before .before .before .before .before .before .before .before .before .piece-end)
 
 loop-again : tie.Need-loop-again Inv-loop μ-loop
-loop-again c = let w = c .before .before .before .before .before .before .tuned in let l = c .before .before .before .before .before .before .before .before .before .before .before .before .before .before .loop in let e = c .before .before .before .before .before .before .before .before .before .before .before .piece-end .result in (w .kept .1 .1 .1 .1 .0 ∙ l .inv .0, w .kept .1 .1 .1 .1 .1 .0 ∙ l .inv .1, same-len-mid (l .at) (e - l .at) (l .block) (w .last .1 .1 .1 .1 .1 .1 .0) (w .kept .1 .1 .1 .1 .1 .1 .0) ∙ l .inv .2, omega (arith, c .before .before .before .before .before .before .before .before .before .before .before .piece-end, l .inv))
+loop-again c = let w = c .before .before .before .before .before .before .passed in let l = c .before .before .before .before .before .before .before .before .before .before .before .before .before .before .loop in let e = c .before .before .before .before .before .before .before .before .before .before .piece-end .result in (w .kept .1 .1 .1 .0 ∙ l .inv .0, w .kept .1 .1 .1 .1 .0 ∙ l .inv .1, same-len-mid (l .at) (e - l .at) (l .block) (w .last .1 .1 .1 .1 .1 .0) (w .kept .1 .1 .1 .1 .1 .0) ∙ l .inv .2, omega (arith, c .before .before .before .before .before .before .before .before .before .before .piece-end, l .inv))
 
 same-length : tie.Need-same-length Inv-loop μ-loop
 same-length c = search needs
@@ -71,16 +68,15 @@ run-spec =
     Inv-loop
     μ-loop
     loop-holds
-    add-piece-at
-    piece-at-requires
-    piece-end-requires
-    retuned-requires
-    mul-tuned
-    sub-tuned
-    part-tuned-start
-    part-tuned-end
-    add-tuned
+    add-m
     tuned-requires
+    lasting-requires
+    piece-end-requires
+    mul-passed
+    sub-passed
+    part-passed-start
+    part-passed-end
+    passed-requires
     loop-less
     loop-again
     same-length

@@ -1,5 +1,5 @@
 use Rattle.packing.specs.Packing.{bothShort}
-use Rattle.refusals.proofs.Checks.{passes, fails}
+use Rattle.stage.proofs.Answered.{passes, fails}
 use borrow.Author.Needs.{needs}
 use Rattle.packing.proofs.both_short.Statement.{statement}
 use Rattle.packing.proofs.both_short.Tie as tie

@@ -1,5 +1,5 @@
 use Rattle.packing.specs.Packing.{shortsFit}
-use Rattle.refusals.proofs.Checks.{passes, fails}
+use Rattle.stage.proofs.Answered.{passes, fails}
 use borrow.Author.Needs.{needs}
 use Rattle.packing.proofs.shorts_fit.Statement.{statement}
 use Rattle.packing.proofs.shorts_fit.Tie as tie

@@ -33,9 +33,18 @@ shared-slice-read-size-of-3 c = search needs
 size-of-requires-3 : tie.Need-size-of-requires-3
 size-of-requires-3 c κs = search needs
 
+shared-slice-read-t19 : tie.Need-shared-slice-read-t19
+shared-slice-read-t19 c = search needs
+
+shared-slice-read-t21 : tie.Need-shared-slice-read-t21
+shared-slice-read-t21 c = search needs
+
+shared-slice-read-t11 : tie.Need-shared-slice-read-t11
+shared-slice-read-t11 c = search needs
+
 returns : tie.Need-returns
 unfolding tapeFrom
-returns c = rw (c .size-of3 .ensures) (rw (c .before .before .size-of2 .ensures) (rw (c .before .before .before .before .size-of .ensures) (rw (c .before .before .before .before .before .before .one-pole-from .ensures) (rw (c .before .before .before .before .before .before .before .lowpass-from2 .ensures) (rw (c .before .before .before .before .before .before .before .before .section-from .ensures) (rw (c .before .before .before .before .before .before .before .before .before .lowpass-from .ensures)))))))
+returns c = rw (c .before .before .before .size-of3 .ensures) (rw (c .before .before .before .before .before .size-of2 .ensures) (rw (c .before .before .before .before .before .before .before .size-of .ensures) (rw (c .before .before .before .before .before .before .before .before .before .one-pole-from .ensures) (rw (c .before .before .before .before .before .before .before .before .before .before .lowpass-from2 .ensures) (rw (c .before .before .before .before .before .before .before .before .before .before .before .section-from .ensures) (rw (c .before .before .before .before .before .before .before .before .before .before .before .before .lowpass-from .ensures)))))))
 
 pub tape-from-spec : {M : Type 1} → statement M
 tape-from-spec =
@@ -51,4 +60,7 @@ tape-from-spec =
     size-of-requires-2
     shared-slice-read-size-of-3
     size-of-requires-3
+    shared-slice-read-t19
+    shared-slice-read-t21
+    shared-slice-read-t11
     returns)

@@ -1,6 +1,6 @@
 use Rattle.packing.specs.Packing.{toneFits}
 use borrow.Author.Tests.{eq-eqb, ne-eqb}
-use Rattle.refusals.proofs.Checks.{passes, fails}
+use Rattle.stage.proofs.Answered.{passes, fails}
 use borrow.Author.Needs.{needs}
 use Rattle.packing.proofs.tone_fits.Statement.{statement}
 use Rattle.packing.proofs.tone_fits.Tie as tie

@@ -1,6 +1,6 @@
 use Rattle.packing.specs.Packing.{unpacked}
 use Rattle.packing.proofs.Read.{holds, reads}
-use Rattle.refusals.proofs.Checks.{passes, fails}
+use Rattle.stage.proofs.Answered.{passes, fails}
 use borrow.Author.Needs.{needs}
 use Rattle.packing.proofs.unpack.Statement.{statement}
 use Rattle.packing.proofs.unpack.Tie as tie

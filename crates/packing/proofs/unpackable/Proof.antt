@@ -1,6 +1,6 @@
 use Rattle.packing.specs.Packing.{unpackable}
 use borrow.Author.Tests.{le-leb, lt-leb}
-use Rattle.refusals.proofs.Checks.{passes, fails}
+use Rattle.stage.proofs.Answered.{passes, fails}
 use borrow.Author.Needs.{needs}
 use Rattle.packing.proofs.unpackable.Statement.{statement}
 use Rattle.packing.proofs.unpackable.Tie as tie

@@ -3,6 +3,9 @@ use borrow.Author.Needs.{needs}
 use Rattle.part.proofs.latched.Statement.{statement}
 use Rattle.part.proofs.latched.Tie as tie
 
+untuned-requires : tie.Need-untuned-requires
+untuned-requires c κs = search needs
+
 widen-requires : tie.Need-widen-requires
 widen-requires c κs = search needs
 
@@ -17,8 +20,8 @@ toward-requires-2 c κs = search needs
 
 returns : tie.Need-returns
 unfolding latchedStrip
-returns c = rw (c .toward2 .ensures, c .before .widen2 .ensures, c .before .before .toward .ensures, c .before .before .before .widen .ensures)
+returns c = rw (c .toward2 .ensures, c .before .widen2 .ensures, c .before .before .toward .ensures, c .before .before .before .widen .ensures, c .before .before .before .before .before .before .untuned .ensures)
 
 pub latched-spec : {M : Type 1} → statement M
 latched-spec =
-    tie.close (tie.spec widen-requires toward-requires widen-requires-2 toward-requires-2 returns)
+    tie.close (tie.spec untuned-requires widen-requires toward-requires widen-requires-2 toward-requires-2 returns)

@@ -51,7 +51,7 @@ turn-requires-8 : tie.Need-turn-requires-8
 turn-requires-8 c κs = search needs
 
 returns : tie.Need-returns
-returns c = cc
+returns c = rw (c .before .before .before .before .before .before .before .turn .ensures, c .before .before .before .before .before .before .turn2 .ensures, c .before .before .before .before .before .turn3 .ensures, c .before .before .before .before .turn4 .ensures, c .before .before .before .turn5 .ensures, c .before .before .turn6 .ensures, c .before .turn7 .ensures, c .turn8 .ensures)
 
 pub angles-spec : {M : Type 1} → statement M
 angles-spec =

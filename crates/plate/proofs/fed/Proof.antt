@@ -14,7 +14,7 @@ part-leaving-end : tie.Need-part-leaving-end
 part-leaving-end c = search needs
 
 leaving-requires : tie.Need-leaving-requires
-leaving-requires c κs = search needs
+leaving-requires c κs = (c .before .before .pre .0 .left, search needs)
 
 mul-leaving : tie.Need-mul-leaving
 mul-leaving c = search needs
@@ -29,7 +29,7 @@ part-leaving-end-2 : tie.Need-part-leaving-end-2
 part-leaving-end-2 c = search needs
 
 leaving-requires-2 : tie.Need-leaving-requires-2
-leaving-requires-2 c κs = search needs
+leaving-requires-2 c κs = (c .before .before .before .before .pre .0 .right, search needs)
 
 returns : tie.Need-returns
 returns c = let s = c .before .before .before .before .before .before .before in fed-is (s .args .rate) (s .args .n) (s .args .part .now) (omega (arith, s .pre .1)) (s .args .x) _ _ (c .before .before .before .before .leaving .ensures) (c .before .before .leaving2 .ensures)

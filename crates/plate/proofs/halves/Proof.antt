@@ -14,7 +14,7 @@ part-half-end : tie.Need-part-half-end
 part-half-end c = search needs
 
 half-requires : tie.Need-half-requires
-half-requires c κs = search needs
+half-requires c κs = let p = c .before .before .pre in (p .0 .left, (search needs, p .1 .1))
 
 mul-half : tie.Need-mul-half
 mul-half c = search needs

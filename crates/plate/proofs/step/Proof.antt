@@ -16,7 +16,7 @@ part-input-end : tie.Need-part-input-end
 part-input-end c = search needs
 
 input-requires : tie.Need-input-requires
-input-requires c κs = search needs
+input-requires c κs = let p = c .before .before .pre in (p .0 .input, (search needs, p .1 .1 .1))
 
 mul-tank-step : tie.Need-mul-tank-step
 mul-tank-step c = search needs

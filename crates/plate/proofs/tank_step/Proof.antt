@@ -13,7 +13,7 @@ add-returned : tie.Need-add-returned
 add-returned c = search needs
 
 returned-requires : tie.Need-returned-requires
-returned-requires c κs = search needs
+returned-requires c κs = (c .before .before .before .before .before .before .before .before .pre .0, search needs)
 
 same-length : tie.Need-same-length
 same-length c = search needs

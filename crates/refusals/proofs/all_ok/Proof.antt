@@ -1,4 +1,5 @@
-use Rattle.refusals.proofs.Checks.{passes, fails, ok-more, ok-none}
+use Rattle.stage.proofs.Answered.{passes, fails}
+use Rattle.refusals.proofs.Checks.{ok-more, ok-none}
 use Rattle.strip.specs.Refusals.{allOk}
 use lib.ListN.{length, drop}
 use Prim.Native.Nat.{_-_, _≤_}

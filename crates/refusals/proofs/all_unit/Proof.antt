@@ -1,4 +1,5 @@
-use Rattle.refusals.proofs.Checks.{passes, fails, unit-more, unit-none}
+use Rattle.stage.proofs.Answered.{passes, fails}
+use Rattle.refusals.proofs.Checks.{unit-more, unit-none}
 use Rattle.strip.specs.Refusals.{allUnit}
 use lib.ListN.{length, drop}
 use Prim.Native.Nat.{_-_, _≤_}

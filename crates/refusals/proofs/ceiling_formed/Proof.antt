@@ -34,7 +34,7 @@ part-well-formed-end-2 : tie.Need-part-well-formed-end-2
 part-well-formed-end-2 c = search needs
 
 well-formed-requires : tie.Need-well-formed-requires
-well-formed-requires c κs = search needs
+well-formed-requires c κs = (c .before .before .before .before .before .before .before .pre .0 .ceiling, search needs)
 
 returns : tie.Need-returns
 returns c = let s = c .before .before .before .before .before .before .before .before .args in ceiling-lent (s .rate) (s .ceiling) (s .store .now) (s .counts .now) _ _ _ _ (c .before .before .before .before .before .ceiling-at .ensures) (c .before .before .before .before .values-at .ensures) (c .before .before .before .positions-at .ensures) (c .well-formed .ensures)

@@ -1,5 +1,5 @@
 use Rattle.strip.specs.Calls.{state}
-use Rattle.refusals.proofs.Checks.{passes, fails}
+use Rattle.stage.proofs.Answered.{passes, fails}
 use Rattle.refusals.proofs.Numbers.{sized-is, declined-short, judged}
 use mathlib.Core.Path.{sym, _∙_}
 use borrow.Author.Needs.{needs}

@@ -1,5 +1,5 @@
 use Rattle.strip.specs.Calls.{state}
-use Rattle.refusals.proofs.Checks.{passes, fails}
+use Rattle.stage.proofs.Answered.{passes, fails}
 use Rattle.refusals.proofs.Numbers.{formed-apart, few-points}
 use borrow.Author.Needs.{needs}
 use Rattle.refusals.proofs.formed.Statement.{statement}

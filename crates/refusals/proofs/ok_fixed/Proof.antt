@@ -1,5 +1,5 @@
 use Rattle.strip.specs.Refusals.{okTone}
-use Rattle.refusals.proofs.Checks.{passes, fails}
+use Rattle.stage.proofs.Answered.{passes, fails}
 use borrow.Author.Needs.{needs}
 use Rattle.refusals.proofs.ok_fixed.Statement.{statement}
 use Rattle.refusals.proofs.ok_fixed.Tie as tie

@@ -1,5 +1,5 @@
 use Rattle.strip.specs.Refusals.{okLists}
-use Rattle.refusals.proofs.Checks.{passes, fails}
+use Rattle.stage.proofs.Answered.{passes, fails}
 use borrow.Author.Needs.{needs}
 use Rattle.refusals.proofs.ok_lists.Statement.{statement}
 use Rattle.refusals.proofs.ok_lists.Tie as tie

@@ -1,5 +1,5 @@
 use Rattle.strip.specs.Refusals.{okPoints}
-use Rattle.refusals.proofs.Checks.{passes, fails}
+use Rattle.stage.proofs.Answered.{passes, fails}
 use borrow.Author.Tests.{le-leb, lt-leb, eq-eqb, ne-eqb}
 use borrow.Author.Needs.{needs}
 use Rattle.refusals.proofs.ok_points.Statement.{statement}

@@ -1,5 +1,5 @@
 use Rattle.strip.specs.Refusals.{runRefusal}
-use Rattle.refusals.proofs.Checks.{passes, fails}
+use Rattle.stage.proofs.Answered.{passes, fails}
 use mathlib.Core.Path.{sym, _∙_}
 use borrow.Author.Needs.{needs}
 use Rattle.refusals.proofs.run_refusal.Statement.{statement}

@@ -1,5 +1,5 @@
 use Rattle.refusals.specs.Pieces.{stripFormed}
-use Rattle.refusals.proofs.Checks.{passes, fails}
+use Rattle.stage.proofs.Answered.{passes, fails}
 use borrow.Author.Tests.{le-leb, lt-leb}
 use borrow.Author.Needs.{needs}
 use Rattle.refusals.proofs.strip_formed.Statement.{statement}

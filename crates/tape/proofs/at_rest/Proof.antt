@@ -9,29 +9,23 @@ use Rattle.biquad.proofs.Lowpass.at_rest.Reads as Lowpass-at-rest-reads
 use Rattle.delay.proofs.at_rest.Reads as at-rest-reads
 use Rattle.tape.proofs.equalizer_at_rest.Reads as equalizer-at-rest-reads
 
--- src/lib.rt:273:8
 at-rest-requires : tie.Need-at-rest-requires
 at-rest-requires c κs = search needs
 
--- src/lib.rt:274:12
 equalizer-at-rest-requires : tie.Need-equalizer-at-rest-requires
 equalizer-at-rest-requires c κs = search needs
 
--- src/lib.rt:275:13
 at-rest-requires-2 : tie.Need-at-rest-requires-2
 at-rest-requires-2 c κs = search needs
 
--- src/lib.rt:275:13
 returns : tie.Need-returns
 unfolding tapeAtRestOn
 returns c = rw (sym (c .before .before .before .before .at-rest .ensures) ∙ c .before .before .before .if1 .taken, sym (c .before .before .equalizer-at-rest .ensures) ∙ c .before .if2 .taken) (c .at-rest2 .ensures)
 
--- src/lib.rt:268:1
 returns-2 : tie.Need-returns-2
 unfolding tapeAtRestOn
 returns-2 c = rw (sym (c .before .before .before .at-rest .ensures) ∙ c .before .before .if1 .taken, sym (c .before .equalizer-at-rest .ensures) ∙ c .if2 .left)
 
--- src/lib.rt:268:1
 returns-3 : tie.Need-returns-3
 unfolding tapeAtRestOn
 returns-3 c = rw (sym (c .before .at-rest .ensures) ∙ c .if1 .left)

@@ -8,24 +8,19 @@ use Rattle.tape.proofs.duck_block.Reads as reads
 use Rattle.tape.proofs.duck_block.Lts as lts
 use Rattle.duck.proofs.duck_block.Reads as duck-block-reads
 
--- src/lib.rt:202:9
 duck-block-requires : tie.Need-duck-block-requires
 duck-block-requires c κs = search needs
 
--- src/lib.rt:202:9
 same-length : tie.Need-same-length
 same-length c = search needs
 
--- src/lib.rt:202:9
 same-length-2 : tie.Need-same-length-2
 same-length-2 c = search needs
 
--- src/lib.rt:202:9
 returns : tie.Need-returns
 unfolding duckedStepOn
 returns c = rw (c .before .before .before .before .before .before .before .if1 .taken) (c .before .before .before .before .duck-block .ensures)
 
--- src/lib.rt:195:1
 returns-2 : tie.Need-returns-2
 unfolding duckedStepOn
 returns-2 c = rw (c .if1 .left) (sym (ran-identity _ _ _), sym (outs-identity _ _ _))

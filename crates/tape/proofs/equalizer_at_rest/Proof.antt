@@ -9,29 +9,23 @@ use Rattle.biquad.proofs.Lowpass.at_rest.Reads as Lowpass-at-rest-reads
 use Rattle.biquad.proofs.Section.at_rest.Reads as Section-at-rest-reads
 use Rattle.onepole.proofs.OnePole.at_rest.Reads as OnePole-at-rest-reads
 
--- src/lib.rt:259:8
 at-rest-requires : tie.Need-at-rest-requires
 at-rest-requires c κs = search needs
 
--- src/lib.rt:260:12
 at-rest-requires-2 : tie.Need-at-rest-requires-2
 at-rest-requires-2 c κs = search needs
 
--- src/lib.rt:261:13
 at-rest-requires-3 : tie.Need-at-rest-requires-3
 at-rest-requires-3 c κs = search needs
 
--- src/lib.rt:261:13
 returns : tie.Need-returns
 unfolding equalizerAtRest
 returns c = rw (sym (c .before .before .before .before .at-rest .ensures) ∙ c .before .before .before .if1 .taken, sym (c .before .before .at-rest2 .ensures) ∙ c .before .if2 .taken) (c .at-rest3 .ensures)
 
--- src/lib.rt:253:1
 returns-2 : tie.Need-returns-2
 unfolding equalizerAtRest
 returns-2 c = rw (sym (c .before .before .before .at-rest .ensures) ∙ c .before .before .if1 .taken, sym (c .before .at-rest2 .ensures) ∙ c .if2 .left)
 
--- src/lib.rt:253:1
 returns-3 : tie.Need-returns-3
 unfolding equalizerAtRest
 returns-3 c = rw (sym (c .before .at-rest .ensures) ∙ c .if1 .left)

@@ -16,52 +16,40 @@ Inv-loop setup rain block₀ n equalizer₀ i₀ block equalizer i = InPlace (eq
 abbrev μ-loop : tie.MeasureT-loop
 μ-loop setup rain block₀ n equalizer₀ i₀ block equalizer i = length block₀ - i
 
--- src/lib.rt:185:5
 loop-holds : tie.Need-loop-holds Inv-loop μ-loop
 loop-holds c = in-start _ _ _ _
 
--- src/lib.rt:186:56
 add-equalizer-step : tie.Need-add-equalizer-step Inv-loop μ-loop
 add-equalizer-step c = search needs
 
--- src/lib.rt:186:70
 mul-equalizer-step : tie.Need-mul-equalizer-step Inv-loop μ-loop
 mul-equalizer-step c = search needs
 
--- src/lib.rt:186:70
 slice-read-equalizer-step : tie.Need-slice-read-equalizer-step Inv-loop μ-loop
 slice-read-equalizer-step c = search needs
 
--- src/lib.rt:186:13
 equalizer-step-requires : tie.Need-equalizer-step-requires Inv-loop μ-loop
 equalizer-step-requires c κs = search needs
 
--- src/lib.rt:188:9
 mul-block : tie.Need-mul-block Inv-loop μ-loop
 mul-block c = search needs
 
--- src/lib.rt:188:9
 slice-write-block : tie.Need-slice-write-block Inv-loop μ-loop
 slice-write-block c = search needs
 
--- src/lib.rt:189:9
 add-i : tie.Need-add-i Inv-loop μ-loop
 add-i c = search needs
 
--- src/lib.rt:185:5
 loop-less : tie.Need-loop-less Inv-loop μ-loop
 loop-less c = search needs
 
--- src/lib.rt:185:5
 loop-again : tie.Need-loop-again Inv-loop μ-loop
 loop-again c = let l = c .before .before .before .before .loop in
     in-turn _ _ _ _ (l .equalizer) (l .block) (l .i) nan _ (l .inv) (c .before .before .before .loop-test .taken) (c .before .equalizer-step .ensures)
 
--- src/lib.rt:178:1
 same-length : tie.Need-same-length Inv-loop μ-loop
 same-length c = search needs
 
--- src/lib.rt:178:1
 returns : tie.Need-returns Inv-loop μ-loop
 returns c = let l = c .before .loop in
     (in-ran _ _ _ _ (l .equalizer) (l .block) (l .i) (l .inv) (c .loop-test .left), in-outs _ _ _ _ (l .equalizer) (l .block) (l .i) (l .inv) (c .loop-test .left))

@@ -6,27 +6,21 @@ use Rattle.tape.proofs.fresh.Reads as reads
 use Rattle.tape.proofs.fresh.Lts as lts
 use Rattle.biquad.proofs.Section.new.Reads as new-reads
 
--- src/lib.rt:242:33
 new-requires : tie.Need-new-requires
 new-requires c κs = search needs
 
--- src/lib.rt:242:63
 new-requires-2 : tie.Need-new-requires-2
 new-requires-2 c κs = search needs
 
--- src/lib.rt:243:36
 new-requires-3 : tie.Need-new-requires-3
 new-requires-3 c κs = search needs
 
--- src/lib.rt:243:70
 new-requires-4 : tie.Need-new-requires-4
 new-requires-4 c κs = search needs
 
--- src/lib.rt:244:9
 new-requires-5 : tie.Need-new-requires-5
 new-requires-5 c κs = search needs
 
--- src/lib.rt:238:1
 returns : tie.Need-returns
 unfolding freshTape freshTone freshEqualizer
 returns c = cc

@@ -11,7 +11,7 @@ use Rattle.tape.proofs.front_block.Tie as tie
 use Rattle.tape.proofs.front_block.Reads as reads
 use Rattle.tape.proofs.front_block.Lts as lts
 use Rattle.tape.proofs.front_group.Reads as front-group-reads
-use Rattle.tape.proofs.group_end.Reads as group-end-reads
+use Rattle.eight.proofs.group_end.Reads as group-end-reads
 
 abbrev Inv-loop : tie.InvT-loop
 Inv-loop rate setup ring₀ block₀ n tone₀ i₀ ring block tone i = InPlace (frontStepOn rate setup) n (frontOn tone₀ ring₀) block₀ (frontOn tone ring) block i × (length ring ≡ length ring₀)
@@ -19,35 +19,27 @@ Inv-loop rate setup ring₀ block₀ n tone₀ i₀ ring block tone i = InPlace 
 abbrev μ-loop : tie.MeasureT-loop
 μ-loop rate setup ring₀ block₀ n tone₀ i₀ ring block tone i = length block₀ - i
 
--- src/lib.rt:373:5
 loop-holds : tie.Need-loop-holds Inv-loop μ-loop
 loop-holds c = (in-start _ _ _ _, refl)
 
--- src/lib.rt:374:13
 group-end-requires : tie.Need-group-end-requires Inv-loop μ-loop
 group-end-requires c κs = search needs
 
--- src/lib.rt:375:53
 mul-front-group : tie.Need-mul-front-group Inv-loop μ-loop
 mul-front-group c = search needs
 
--- src/lib.rt:375:53
 sub-front-group : tie.Need-sub-front-group Inv-loop μ-loop
 sub-front-group c = search needs
 
--- src/lib.rt:375:53
 part-front-group-start : tie.Need-part-front-group-start Inv-loop μ-loop
 part-front-group-start c = search needs
 
--- src/lib.rt:375:53
 part-front-group-end : tie.Need-part-front-group-end Inv-loop μ-loop
 part-front-group-end c = search needs
 
--- src/lib.rt:375:71
 add-front-group : tie.Need-add-front-group Inv-loop μ-loop
 add-front-group c = search needs
 
--- src/lib.rt:375:9
 front-group-requires : tie.Need-front-group-requires Inv-loop μ-loop
 front-group-requires c κs = let l = c .before .before .before .before .loop in
     let p = c .before .before .before .before .before .before .before .pre in
@@ -56,26 +48,21 @@ front-group-requires c κs = let l = c .before .before .before .before .loop in
     let z = l .inv .0 .ahead .sized in
     (record { some = p .0 .some; room = rw (l .inv .1) (p .0 .room); reach = p .0 .reach }, (omega (arith, p .1, e .0, e .1, k, z), omega (arith, p .1, e .0, e .1, z), omega (arith, e .2, k)))
 
--- src/lib.rt:373:5
 loop-less : tie.Need-loop-less Inv-loop μ-loop
 loop-less c = let e = c .before .before .before .before .before .before .before .group-end .ensures in omega (arith, e .0, e .1, c .before .before .before .before .before .before .before .before .before .loop .inv .0 .ahead .sized)
 
--- src/lib.rt:373:5
 loop-again : tie.Need-loop-again Inv-loop μ-loop
 loop-again c = let l = c .before .before .before .before .before .before .before .before .before .loop in
     let g = c .before .before .before .before .front-group in
     let e = c .before .before .before .before .before .before .before .group-end .ensures in
     (in-block _ _ _ _ (frontOn (l .tone) (l .ring)) (l .block) (l .i) _ _ _ (l .inv .0) (omega (arith, e .0)) (e .1) (g .ensures .0) (g .ensures .1), g .kept .1 .1 .1 .0 ∙ l .inv .1)
 
--- src/lib.rt:358:1
 same-length : tie.Need-same-length Inv-loop μ-loop
 same-length c = search needs
 
--- src/lib.rt:358:1
 same-length-2 : tie.Need-same-length-2 Inv-loop μ-loop
 same-length-2 c = search needs
 
--- src/lib.rt:358:1
 returns : tie.Need-returns Inv-loop μ-loop
 returns c = let l = c .before .loop in
     (in-ran _ _ _ _ (frontOn (l .tone) (l .ring)) (l .block) (l .i) (l .inv .0) (c .loop-test .left), in-outs _ _ _ _ (frontOn (l .tone) (l .ring)) (l .block) (l .i) (l .inv .0) (c .loop-test .left))

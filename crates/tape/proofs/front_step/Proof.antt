@@ -8,27 +8,21 @@ use Rattle.biquad.proofs.Lowpass.step.Reads as step-reads
 use Rattle.delay.proofs.DelayLine.push.Reads as push-reads
 use Rattle.delay.proofs.DelayLine.tap.Reads as tap-reads
 
--- src/lib.rt:277:9
 step-requires : tie.Need-step-requires
 step-requires c κs = search needs
 
--- src/lib.rt:279:5
 push-requires : tie.Need-push-requires
 push-requires c κs = search needs
 
--- src/lib.rt:280:28
 add-tap : tie.Need-add-tap
 add-tap c = search needs
 
--- src/lib.rt:280:9
 tap-requires : tie.Need-tap-requires
 tap-requires c κs = search needs
 
--- src/lib.rt:262:1
 same-length : tie.Need-same-length
 same-length c = search needs
 
--- src/lib.rt:262:1
 returns : tie.Need-returns
 unfolding frontStepOn
 returns c = let s = c .before .before .before .before .before .before .before .before .before .before .before in

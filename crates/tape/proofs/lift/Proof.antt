@@ -8,24 +8,19 @@ use Rattle.casts.proofs.widen.Reads as widen-reads
 use Rattle.onepole.proofs.lift.Reads as lift-reads
 use Rattle.ramp.proofs.Ramp.at.Reads as at-reads
 
--- src/lib.rt:110:30
 at-requires : tie.Need-at-requires
 at-requires c κs = search needs
 
--- src/lib.rt:110:9
 lift-requires : tie.Need-lift-requires
 lift-requires c κs = search needs
 
--- src/lib.rt:110:9
 returns : tie.Need-returns
 unfolding liftAt
 returns c = cc
 
--- src/lib.rt:112:5
 widen-requires : tie.Need-widen-requires
 widen-requires c κs = search needs
 
--- src/lib.rt:106:1
 returns-2 : tie.Need-returns-2
 unfolding liftAt
 returns-2 c = cc

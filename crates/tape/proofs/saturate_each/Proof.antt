@@ -17,48 +17,37 @@ Inv-loop drive top block₀ i₀ block i = MapIn (saturatedOver drive top) block
 abbrev μ-loop : tie.MeasureT-loop
 μ-loop drive top block₀ i₀ block i = length block₀ - i
 
--- src/lib.rt:172:5
 loop-holds : tie.Need-loop-holds Inv-loop μ-loop
 loop-holds c = map-start _ _
 
--- src/lib.rt:173:46
 mul-saturate-over : tie.Need-mul-saturate-over Inv-loop μ-loop
 mul-saturate-over c = search needs
 
--- src/lib.rt:173:46
 slice-read-saturate-over : tie.Need-slice-read-saturate-over Inv-loop μ-loop
 slice-read-saturate-over c = search needs
 
--- src/lib.rt:173:20
 saturate-over-requires : tie.Need-saturate-over-requires Inv-loop μ-loop
 saturate-over-requires c κs = search needs
 
--- src/lib.rt:173:9
 mul-block : tie.Need-mul-block Inv-loop μ-loop
 mul-block c = search needs
 
--- src/lib.rt:173:9
 slice-write-block : tie.Need-slice-write-block Inv-loop μ-loop
 slice-write-block c = search needs
 
--- src/lib.rt:174:9
 add-i : tie.Need-add-i Inv-loop μ-loop
 add-i c = search needs
 
--- src/lib.rt:172:5
 loop-less : tie.Need-loop-less Inv-loop μ-loop
 loop-less c = search needs
 
--- src/lib.rt:172:5
 loop-again : tie.Need-loop-again Inv-loop μ-loop
 loop-again c = let l = c .before .before .before .loop in
     map-turn _ _ (l .block) (l .i) nan _ (l .inv) (c .before .before .loop-test .taken) (c .saturate-over .ensures)
 
--- src/lib.rt:167:1
 same-length : tie.Need-same-length Inv-loop μ-loop
 same-length c = search needs
 
--- src/lib.rt:167:1
 returns : tie.Need-returns Inv-loop μ-loop
 returns c = let l = c .before .loop in map-done _ _ (l .block) (l .i) (l .inv) (c .loop-test .left)
 

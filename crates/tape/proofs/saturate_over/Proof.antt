@@ -5,11 +5,9 @@ use Rattle.tape.proofs.saturate_over.Reads as reads
 use Rattle.tape.proofs.saturate_over.Lts as lts
 use Rattle.elementary.proofs.tanh.Reads as tanh-reads
 
--- src/lib.rt:102:5
 tanh-requires : tie.Need-tanh-requires
 tanh-requires c κs = search needs
 
--- src/lib.rt:99:1
 returns : tie.Need-returns
 returns c = cc
 

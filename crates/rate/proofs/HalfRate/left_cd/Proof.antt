@@ -6,7 +6,6 @@ use Rattle.rate.proofs.HalfRate.left_cd.Tie as tie
 use Rattle.rate.proofs.HalfRate.left_cd.Reads as reads
 use Rattle.rate.proofs.HalfRate.left_cd.Lts as lts
 
--- src/lib.rt:120:5
 returns : tie.Need-returns
 returns c = sym left-44100
 

@@ -6,7 +6,6 @@ use Rattle.rate.proofs.HalfRate.right_cd.Tie as tie
 use Rattle.rate.proofs.HalfRate.right_cd.Reads as reads
 use Rattle.rate.proofs.HalfRate.right_cd.Lts as lts
 
--- src/lib.rt:155:5
 returns : tie.Need-returns
 returns c = sym right-44100
 

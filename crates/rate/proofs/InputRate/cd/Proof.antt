@@ -6,7 +6,6 @@ use Rattle.rate.proofs.InputRate.cd.Tie as tie
 use Rattle.rate.proofs.InputRate.cd.Reads as reads
 use Rattle.rate.proofs.InputRate.cd.Lts as lts
 
--- src/lib.rt:73:5
 returns : tie.Need-returns
 returns c = sym input-44100
 

@@ -1,0 +1,2 @@
+-- The lane's oscillators.
+pub mod Oscillators

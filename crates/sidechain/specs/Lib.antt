@@ -1,0 +1,2 @@
+pub mod Sidechain
+pub mod Cases

@@ -1,0 +1,93 @@
+// A kick's gain (whole.rs `sidechain_gain`): at one sample, and at two neighbours at once. Uses casts, and no rate by its number.
+ghost use mathlib.Core.Path.{_≡_};
+ghost use Prim.Native.Nat.{_+_, _<_};
+ghost use Rattle.casts.specs.Arithmetic.{_⊕_, _⊖_, _⊗_, _⊘_, one, whole};
+ghost use Rattle.sidechain.specs.Sidechain.{sidechainGain};
+
+// What of a duck depends on the rate: the attack and the release in samples, and the gain at the bottom.
+pub struct DuckRate {
+    pub attack: u64,
+    pub release: u64,
+    pub floor: f64,
+}
+
+// The gains at a sample and at the one after it.
+pub struct Gains {
+    pub at: f64,
+    pub after: f64,
+}
+
+// Above all that is since a kick.
+const LAST: u64 = 4294967296;
+
+fn short(n: u64) -> f64
+    requires { ⌜ n < 4294967296 ⌝ }
+    ensures { λ r. ⌜ r ≡ whole n ⌝ }
+{
+    (n as u32) as f64
+}
+
+// n as a float. Below 2^32, where all that is since a kick lies, one conversion does.
+fn counted(n: u64) -> f64
+    ensures { λ r. ⌜ r ≡ whole n ⌝ }
+{
+    if n < LAST {
+        return short(n);
+    }
+    std::num::nearest_u64_to_f64(n)
+}
+
+// The gain of a kick that attacks, so many samples since the kick.
+fn attacking(rate: DuckRate, since: f64) -> f64
+    ensures { λ r. ⌜ r ≡ one ⊖ (one ⊖ rate .floor) ⊗ since ⊘ whole (rate .attack) ⌝ }
+{
+    1.0 - (1.0 - rate.floor) * since / counted(rate.attack)
+}
+
+// The gain of a kick that releases, so many samples since its attack.
+fn releasing(rate: DuckRate, up: f64) -> f64
+    ensures { λ r. ⌜ r ≡ rate .floor ⊕ (one ⊖ rate .floor) ⊗ up ⊘ whole (rate .release) ⌝ }
+{
+    rate.floor + (1.0 - rate.floor) * up / counted(rate.release)
+}
+
+pub fn sidechain_gain(rate: DuckRate, since: u64) -> f64
+    ensures { λ r. ⌜ r ≡ sidechainGain rate since ⌝ }
+{
+    if since < rate.attack {
+        return attacking(rate, counted(since));
+    }
+    let up = since - rate.attack;
+    if up < rate.release {
+        return releasing(rate, counted(up));
+    }
+    1.0
+}
+
+// A kick's gain at a sample and at the next. Where it attacks at both, or releases at both, one branch has the two, for the
+// compiler to divide them by one instruction.
+pub fn sidechain_gains(rate: DuckRate, since: u64) -> Gains
+    requires { ⌜ since + 1 < 4294967296 ⌝ }
+    ensures { λ r. ⌜ r .at ≡ sidechainGain rate since ⌝ }
+    ensures { λ r. ⌜ r .after ≡ sidechainGain rate (since + 1) ⌝ }
+{
+    if since + 1 < rate.attack {
+        return Gains {
+            at: attacking(rate, short(since)),
+            after: attacking(rate, short(since + 1)),
+        };
+    }
+    if rate.attack <= since {
+        let up = since - rate.attack;
+        if up + 1 < rate.release {
+            return Gains {
+                at: releasing(rate, short(up)),
+                after: releasing(rate, short(up + 1)),
+            };
+        }
+    }
+    Gains {
+        at: sidechain_gain(rate, since),
+        after: sidechain_gain(rate, since + 1),
+    }
+}
