@@ -8,7 +8,7 @@ ghost use lib.Ieee.{nan};
 ghost use Rattle.casts.specs.Arithmetic.{_⊕_, _⊗_};
 ghost use Rattle.stage.specs.Stage.{ran, outs};
 ghost use Rattle.stream.specs.declared.Frame.{Frame};
-ghost use Rattle.rate.specs.Rate.{RateUsable};
+ghost use Rattle.rate.specs.Rate.{rateOf, RateUsable};
 ghost use Rattle.rate.specs.Plate.{PlateUsable};
 ghost use Rattle.plate.specs.Plate.{plateOn, partOf};
 ghost use Rattle.master.specs.Kept.{framesOut, countsOut};
@@ -247,8 +247,8 @@ fn block_len(until: u64, n: u64, left: usize) -> usize
     least(until - n, BLOCK)
 }
 
+// The rate is made here, so that its numbers are constants to the compiler.
 pub fn go(
-    rate: Rate,
     strip: Strip,
     samples: &[f64],
     drums: bool,
@@ -257,12 +257,12 @@ pub fn go(
     store: &mut [f64],
     counts: &mut [u64],
 ) -> Strip
-    requires { ⌜ RateUsable rate ⌝ }
-    requires { ⌜ Runs rate (state strip (now store) (now counts)) ⌝ }
+    requires { ⌜ Runs (rateOf 44100) (state strip (now store) (now counts)) ⌝ }
     requires { ⌜ strip .position + length (now samples) ≤ 4294967296 ⌝ }
     requires { ⌜ (length (now frames) ≡ 2 * length (now samples)) × (length (now gains) ≡ length (now samples)) ⌝ }
-    ensures { λ r. ⌜ ranAll r (now (store .exit)) (now (counts .exit)) (now (frames .exit)) (now (gains .exit)) ≡ allRan rate drums (state strip (now (store .entry)) (now (counts .entry))) (now (samples .entry)) ⌝ }
+    ensures { λ r. ⌜ ranAll r (now (store .exit)) (now (counts .exit)) (now (frames .exit)) (now (gains .exit)) ≡ allRan (rateOf 44100) drums (state strip (now (store .entry)) (now (counts .entry))) (now (samples .entry)) ⌝ }
 {
+    let rate = Rate::cd();
     let mut strip = strip;
     let mut i: usize = 0;
     while i < samples.len() {

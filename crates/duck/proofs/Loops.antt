@@ -15,19 +15,7 @@ use Rattle.casts.specs.Arithmetic.{_⊗_, one}
 use Rattle.stage.specs.Stage.{Step}
 use Rattle.sidechain.specs.declared.DuckRate.{DuckRate}
 use Rattle.sidechain.specs.Sidechain.{span, sidechainGain}
-use Rattle.duck.specs.Rising.{risingFrom}
 use Rattle.duck.specs.Cursors.{DuckIn, duckOn, laid, isMark, flag, kicksIn, marksIn, Reached, reachedAt, reach, released, timesUntil, gave, gainOn, Within}
-
--- ---- a list that never falls
-
-module _ (l : List ℕ) (b i : ℕ) where
-  pub rising-more : i < length l → risingFrom b (drop i l) ≡ leb b (getD l i 0) && (leb (getD l i 0) 4294967296 && risingFrom (getD l i 0) (drop (i + 1) l))
-  unfolding risingFrom
-  rising-more h = rw (drop-cons l i 0 h, add-one i)
-
-  pub rising-done : length l ≤ i → risingFrom b (drop i l) ≡ true
-  unfolding risingFrom
-  rising-done h = rw (drop-of-length-le l h)
 
 -- ---- a list that is laid at the front of a part
 

@@ -1,7 +1,7 @@
 -- The duck as it is kept gives what document 01's duck gives, at every sample. Assumes nothing.
 --     DuckHolds     the marks of the one and the cursors and part of the other go together
 use mathlib.Core.Path.{_≡_, refl, sym, ap, _∙_}
-use mathlib.Core.Bool.{Bool, true, false, cond, _&&_}
+use mathlib.Core.Bool.{Bool, true, false, cond, _&&_, and-true}
 use Prim.Native.Nat.{ℕ, zero, suc, _+_, _-_, _<_, _≤_}
 use native.Mathlib.Decide.{decLt}
 use native.Mathlib.Omega.{arith}
@@ -16,7 +16,7 @@ use Rattle.stage.proofs.Laws.{Relates}
 use Rattle.sidechain.specs.declared.DuckRate.{DuckRate}
 use Rattle.sidechain.specs.Sidechain.{span, sidechainGain}
 use Rattle.duck.specs.Duck.{marksAt, ducks, timesGains, unmarked, duckStep}
-use Rattle.duck.specs.Rising.{risingFrom}
+use Rattle.ranges.specs.Ranges.{risingFrom}
 use Rattle.duck.specs.Cursors.{DuckIn, laid, isMark, flag, kicksIn, marksIn, Reached, reachedAt, reach, released, timesUntil, gainOn, duckStepOn, Within, duckFormed}
 use Rattle.duck.proofs.Loops.{kicks-length, marks-length, marks-get, gain-within}
 
@@ -28,10 +28,6 @@ both false b e = let z : _≡_ {A = ℕ} 0 1 = cc in absurd (omega arith)
 
 from-both : (a b : Bool) → a ≡ true → b ≡ true → a && b ≡ true
 from-both a b e f = rw e f
-
-and-true : (a : Bool) → a && true ≡ a
-and-true true = refl
-and-true false = refl
 
 and-false : (a : Bool) → a && false ≡ false
 and-false true = refl

@@ -11,7 +11,7 @@ use Rattle.stage.specs.Stage.{Stage, Step}
 use Rattle.duck.specs.declared.Duck.{Duck}
 use Rattle.sidechain.specs.declared.DuckRate.{DuckRate}
 use Rattle.sidechain.specs.Sidechain.{span, sidechainGain}
-use Rattle.duck.specs.Rising.{risingFrom}
+use Rattle.ranges.specs.Ranges.{risingFrom}
 
 pub record DuckIn : Type 0 where
   pub duck : Duck

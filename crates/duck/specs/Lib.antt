@@ -1,3 +1,2 @@
 pub mod Duck
-pub mod Rising
 pub mod Cursors

@@ -1,5 +1,5 @@
 // The duck: a lane's dip under the kicks that the drums sounded (lanes.rs `Duck`). Its part of the count store keeps 1,024
-// positions and then 1,024 marks. Uses casts, stage and sidechain, and no rate by its number.
+// positions and then 1,024 marks. Uses casts, ranges, stage and sidechain, and no rate by its number.
 ghost use mathlib.Core.Path.{_≡_};
 ghost use Prim.Native.Nat.{_+_, _-_, _<_, _≤_};
 ghost use lib.Dec.{leb};
@@ -8,7 +8,6 @@ ghost use mathlib.Core.Bool.{cond};
 ghost use Rattle.casts.specs.Arithmetic.{_⊗_, one};
 ghost use Rattle.stage.specs.Stage.{ran, outs};
 ghost use Rattle.sidechain.specs.Sidechain.{span, sidechainGain};
-ghost use Rattle.duck.specs.Rising.{risingFrom};
 ghost use Rattle.duck.specs.Cursors.{duckOn, laid, flag, isMark, kicksIn, marksIn, reach, reachedAt, released, timesUntil, gave, gainOn, duckStepOn, Within, duckFormed};
 use sidechain::DuckRate;
 use sidechain::Gains;
@@ -33,30 +32,7 @@ struct DuckedTwo {
 // The most kicks; their marks stand after them.
 const KICKS: usize = 1024;
 
-// The last position.
-const LAST: u64 = 4294967296;
-
 // ---- the lists
-
-// Whether a list of positions never falls and has none above 2^32.
-pub fn rising(list: &[u64]) -> bool
-    ensures { λ r. ⌜ r ≡ risingFrom 0 (now (list .entry)) ⌝ }
-{
-    let mut least: u64 = 0;
-    let mut i: usize = 0;
-    while i < list.len() {
-        let k = list[i];
-        if k < least {
-            return false;
-        }
-        if LAST < k {
-            return false;
-        }
-        least = k;
-        i += 1;
-    }
-    true
-}
 
 impl Duck {
     // Keeps the kicks in the duck's part. The marks' places stay as they are: a kick is marked before its mark is read.
@@ -92,7 +68,7 @@ pub fn formed(duck: Duck, counts: &[u64]) -> bool
     if count < duck.ducking {
         return false;
     }
-    rising(&counts[..count])
+    ranges::rising(&counts[..count])
 }
 
 // ---- one kick

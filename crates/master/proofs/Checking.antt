@@ -1,17 +1,19 @@
 -- The loops and the returns of `well_formed`. Assumes nothing.
 use mathlib.Core.Path.{_≡_, refl, sym, ap, subst, _∙_}
-use mathlib.Core.List.{List}
-use mathlib.Core.Bool.{Bool, true, false, _&&_}
-use Prim.Native.Nat.{ℕ, zero, suc, _+_, _*_, _^_, _≤_, _<_}
-use native.Mathlib.Nat.{mul-le-mul-right, not-suc-le-zero, eq-or-lt-of-le, le-of-suc-le-suc}
+use mathlib.Core.List.{List, [], _∷_, _++_}
+use mathlib.Core.Bool.{Bool, true, false, _&&_, and-true, and-assoc}
+use Prim.Native.Nat.{ℕ, zero, suc, _+_, _-_, _*_, _/_, _%_, _^_, _≤_, _<_}
+use native.Mathlib.Nat.{mul-le-mul-right, add-zero, zero-add, add-suc, mod-eq-of-lt, add-mod-left}
 use native.Mathlib.Numerals.{add-one}
 use native.Mathlib.Omega.{arith}
-use mathlib.Core.Logic.{inl, inr}
+use native.Mathlib.Decide.{decLt}
 use lib.Dec.{T, leb, eqb, leb→le}
-use borrow.Author.Tests.{lt-ltb, le-ltb, le-leb, lt-leb}
-use lib.ListN.{getD}
-use lib.Ieee.{Float, le}
+use borrow.Author.Tests.{lt-ltb, le-ltb, le-leb, lt-leb, eq-eqb, ne-eqb}
+use lib.ListN.{length, getD, take, drop, length-drop}
+use lib.Seq.{take-suc, getD-drop}
+use lib.Ieee.{Float, nan}
 use Rattle.casts.specs.Arithmetic.{nought, one}
+use Rattle.ranges.specs.Ranges.{allInRange}
 use Rattle.rate.specs.declared.CeilingRate.{CeilingRate}
 use Rattle.rate.specs.Ceiling.{unit}
 use Rattle.master.specs.Kept.{CeilingIn, placesOf}
@@ -19,37 +21,64 @@ use Rattle.master.specs.WellFormed.{inUnit, every, needsIn, stepsIn, sum
 use Rattle.master.proofs.Ready.{every-at}
 use Rattle.master.proofs.Stays.{sum-le}
 
-pub in-both : (x : Float) → le nought x ≡ true → le x one ≡ inUnit x
-in-both x h = rw h
-
-pub in-neither : (x : Float) → le nought x ≡ false → false ≡ inUnit x
-in-neither x h = rw h
-
 pub every-none : (t : ℕ → Bool) → every t 0 ≡ true
 unfolding every
 every-none t = refl
 
-pub every-more : (t : ℕ → Bool) (k : ℕ) → every t k ≡ true → t k ≡ true → every t (k + 1) ≡ true
+-- ---- the needs, by the parts of the ring that they lie in
+
+all-snoc : (xs : List Float) (x : Float) → allInRange nought one (xs ++ (x ∷ [])) ≡ (allInRange nought one xs && inUnit x)
+unfolding allInRange
+all-snoc [] x = and-true (inUnit x)
+all-snoc (y ∷ ys) x = ap (λ (b : Bool). inUnit y && b) (all-snoc ys x) ∙ sym (and-assoc (inUnit y) (allInRange nought one ys) (inUnit x))
+
+every-part : (t : ℕ → Bool) (xs : List Float) (k : ℕ) → k ≤ length xs → ((j : ℕ) → j < k → t j ≡ inUnit (getD xs j nan)) → every t k ≡ allInRange nought one (take k xs)
+unfolding every allInRange
+every-part t xs zero h f = refl
+every-part t xs (suc k) h f = rw (take-suc xs k nan h, all-snoc (take k xs) (getD xs k nan), every-part t xs k (omega arith) (λ j g. f j (omega arith)), f k (omega arith))
+
+every-split : (t : ℕ → Bool) (a b : ℕ) → every t (a + b) ≡ (every t a && every (λ j. t (a + j)) b)
 unfolding every
-every-more t k h e = rw (add-one k, h, e)
+every-split t a zero = rw (add-zero a) (sym (and-true (every t a)))
+every-split t a (suc b) = rw (add-suc a b, every-split t a b, and-assoc (every t a))
 
-and-false : (b : Bool) → (b && false) ≡ false
-and-false true = refl
-and-false false = refl
+module _ (l : List Float) (P head len : ℕ) (fits : P ≤ length l) (h : head < P) where
+  low : (k : ℕ) → head + k ≤ P → every (λ j. inUnit (getD l ((head + j) % P) nan)) k ≡ allInRange nought one (take k (drop head l))
+  low k e =
+      every-part (λ j. inUnit (getD l ((head + j) % P) nan)) (drop head l) k (rw (length-drop head l) (omega arith))
+      (λ j g. rw (getD-drop head l j nan, mod-eq-of-lt {n = head + j} {m = P} (omega arith)))
 
-pub every-fails : (t : ℕ → Bool) (n k : ℕ) → k < n → t k ≡ false → false ≡ every t n
+  pub needs-low : head + len ≤ P → allInRange nought one (take (head + len - head) (drop head l)) ≡ needsIn l P head len
+  needs-low e = let q : head + len - head ≡ len = omega arith in rw q (sym (low len e))
+
+  pub needs-around : P < head + len → len ≤ P → needsIn l P head len ≡ (allInRange nought one (take (P - head) (drop head l)) && allInRange nought one (take (head + len - P) l))
+  needs-around e s =
+      let q : len ≡ (P - head) + (head + len - P) = omega arith in
+      ap (every (λ j. inUnit (getD l ((head + j) % P) nan))) q
+      ∙ every-split (λ j. inUnit (getD l ((head + j) % P) nan)) (P - head) (head + len - P)
+      ∙ rw (low (P - head) (omega arith), every-part (λ j. inUnit (getD l ((head + (P - head + j)) % P) nan)) l (head + len - P) (omega arith) round)
+    where
+      round : (j : ℕ) → j < head + len - P → inUnit (getD l ((head + (P - head + j)) % P) nan) ≡ inUnit (getD l j nan)
+      round j g = ap (λ (i : ℕ). inUnit (getD l i nan)) (let r : head + (P - head + j) ≡ P + j = omega arith in rw (r, add-mod-left P j) (mod-eq-of-lt {n = j} {m = P} (omega arith)))
+
+-- ---- the steps, by a sum that is 0 where none is above
+
+pub above-test : (x : ℕ) → eqb ((x - x / 1099511627776) / 1099511627776) 0 ≡ leb x 1099511627776
+above-test x = elim (decLt 1099511627776 x) [
+  | yes h ↦ ne-eqb ((x - x / 1099511627776) / 1099511627776) 0 (λ e. omega arith) ∙ sym (lt-leb x 1099511627776 h)
+  | no h ↦ eq-eqb ((x - x / 1099511627776) / 1099511627776) 0 (omega arith) ∙ sym (le-leb x 1099511627776 (omega arith))
+]
+
+eqb-add : (a b : ℕ) → eqb (a + b) 0 ≡ (eqb a 0 && eqb b 0)
+eqb-add zero b = rw (zero-add b)
+eqb-add (suc a) b = rw (ne-eqb (suc a + b) 0 (λ e. omega arith), ne-eqb (suc a) 0 (λ e. omega arith))
+
+pub steps-more : (l : List ℕ) (b k s v : ℕ) → eqb s 0 ≡ stepsIn l b k → eqb v 0 ≡ leb (getD l (b + k) 0) unit → eqb (s + v) 0 ≡ stepsIn l b (k + 1)
 unfolding every
-every-fails t zero k h e = absurd (not-suc-le-zero h)
-every-fails t (suc n) k h e = elim (eq-or-lt-of-le (le-of-suc-le-suc h)) [ inl q ↦ here q | inr q ↦ there (every-fails t n k q e) ]
-  where
-    here : k ≡ n → false ≡ (every t n && t n)
-    here q = let f : t n ≡ false = ap t (sym q) ∙ e in rw f (sym (and-false (every t n)))
+steps-more l b k s v e f = rw (add-one k, eqb-add s v, e, f)
 
-    there : false ≡ every t n → false ≡ (every t n && t n)
-    there q = rw (← q)
-
-pub every-all : (t : ℕ → Bool) (n k : ℕ) → k ≤ n → n ≤ k → every t k ≡ true → true ≡ every t n
-every-all t n k h g e = let q : k ≡ n = omega arith in sym e ∙ ap (every t) q
+pub steps-all : (l : List ℕ) (b n k s : ℕ) → k ≤ n → n ≤ k → eqb s 0 ≡ stepsIn l b k → eqb s 0 ≡ stepsIn l b n
+steps-all l b n k s h g e = let q : k ≡ n = omega arith in e ∙ ap (stepsIn l b) q
 
 pub sum-none : (l : List ℕ) (b : ℕ) → 0 ≡ sumAt l b 0
 unfolding sumAt

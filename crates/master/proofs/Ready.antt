@@ -14,6 +14,7 @@ use Rattle.casts.specs.Arithmetic.{nought, one}
 use Rattle.rate.specs.declared.CeilingRate.{CeilingRate}
 use Rattle.rate.specs.Ceiling.{unit}
 use Rattle.master.specs.Kept.{CeilingIn, placesOf}
+use Rattle.ranges.specs.Ranges.{inRange}
 use Rattle.master.specs.WellFormed.{inUnit, every, needsIn, stepsIn, sumAt, wellFormed, Sized}
 use Rattle.master.proofs.Bound.{Gain}
 
@@ -40,9 +41,11 @@ every-of t (suc k) f = and-i (every t k) (t k) (every-of t k (λ j h. f j (less 
     less j k h = omega arith
 
 gain-of : (x : Float) → T (inUnit x) → Gain x
+unfolding inRange
 gain-of x t = (and-l (le nought x) (le x one) t, and-r (le nought x) (le x one) t)
 
 of-gain : (x : Float) → Gain x → T (inUnit x)
+unfolding inRange
 of-gain x g = and-i (le nought x) (le x one) (g .0) (g .1)
 
 module _ (r : CeilingRate) (k : CeilingIn) where

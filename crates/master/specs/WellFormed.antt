@@ -5,14 +5,15 @@ use mathlib.Core.List.{List}
 use mathlib.Core.Bool.{Bool, true, _&&_}
 use lib.Dec.{leb, ltb, eqb}
 use lib.ListN.{length, getD}
-use lib.Ieee.{Float, nan, le}
+use lib.Ieee.{Float, nan}
 use Rattle.casts.specs.Arithmetic.{nought, one}
+use Rattle.ranges.specs.Ranges.{inRange}
 use Rattle.rate.specs.declared.CeilingRate.{CeilingRate}
 use Rattle.rate.specs.Ceiling.{unit}
 use Rattle.master.specs.Kept.{CeilingIn, placesOf, samplesOf, countsOf}
 
 abbrev pub inUnit : Float → Bool
-inUnit x = le nought x && le x one
+inUnit x = inRange nought one x
 
 -- t of each below k
 unfoldable pub every : (ℕ → Bool) → ℕ → Bool

@@ -1,19 +1,19 @@
 // The ceiling: a limiter with a look-ahead, and a clamp (document 01, "Ceiling"), as a stage on its own parts of the two stores.
-// Uses casts (widen, narrow, whole part), stream (Frame), rate (CeilingRate), and stage in specs and proofs.
+// Uses casts (widen, narrow, whole part), ranges, stream (Frame), rate (CeilingRate), and stage in specs and proofs.
 ghost use mathlib.Core.Path.{_≡_};
 ghost use Prim.Native.Nat.{_+_, _-_, _*_, _%_, _<_, _≤_};
 ghost use lib.ListN.{length, getD, set};
-ghost use lib.Dec.{T};
+ghost use lib.Dec.{T, leb, eqb};
 ghost use lib.Ieee.{nan, le};
 ghost use Rattle.casts.specs.Arithmetic.{_⊗_};
 ghost use Rattle.casts.specs.Cast.{narrowed};
 ghost use Rattle.casts.specs.Least.{minF};
 ghost use Rattle.casts.specs.Step.{stepOf};
 ghost use Rattle.stage.specs.Stage.{ran, outs};
-ghost use Rattle.rate.specs.Ceiling.{Usable};
+ghost use Rattle.rate.specs.Ceiling.{Usable, unit};
 ghost use Rattle.master.specs.Ceiling.{sizeOf, largerOf, needOf, gainOf, clamped, deliver};
 ghost use Rattle.master.specs.Kept.{ceilingOn, placesOf, popLen, drops, headAfter, lenAfter, needsAfter, numbersAfter, stepPlace, latePlace, lateAt, gave, ceilingStepOn, framesIn, framesOut, countsOut, filled, ceilingFresh};
-ghost use Rattle.master.specs.WellFormed.{inUnit, needsIn, stepsIn, sumAt, wellFormed, Sized};
+ghost use Rattle.master.specs.WellFormed.{needsIn, stepsIn, sumAt, wellFormed, Sized};
 use rate::CeilingRate;
 use stream::Frame;
 
@@ -356,45 +356,42 @@ pub fn fresh(rate: CeilingRate, samples: &mut [f64], counts: &mut [u64]) -> Ceil
 
 // ---- refusal 4
 
-// Whether x is from 0 to 1.
-fn in_unit(x: f64) -> bool
-    ensures { λ r. ⌜ r ≡ inUnit x ⌝ }
-{
-    if 0.0 <= x { x <= 1.0 } else { false }
-}
-
-// Whether each of the len needs queued from head on is from 0 to 1.
+// Whether each of the len needs queued from head on is from 0 to 1: those up to the ring's end, and those that lie from its beginning on.
 fn needs_in(samples: &[f64], places: usize, head: usize, len: usize) -> bool
     requires { ⌜ (places ≤ length (now samples)) × (places ≤ 65535) ⌝ }
     requires { ⌜ (head < places) × (len ≤ places) ⌝ }
     ensures { λ r. ⌜ r ≡ needsIn (now (samples .entry)) places head len ⌝ }
 {
-    let mut k = 0;
-    while k < len {
-        let i = wrapped(head + k, places);
-        if in_unit(samples[i]) {
-            k += 1;
-        } else {
-            return false;
-        }
+    let end = head + len;
+    if end <= places {
+        return ranges::all_in_range(0.0, 1.0, &samples[head..end]);
     }
-    true
+    let around = end - places;
+    if !ranges::all_in_range(0.0, 1.0, &samples[head..places]) {
+        return false;
+    }
+    ranges::all_in_range(0.0, 1.0, &samples[..around])
+}
+
+// 0 where a step is at most 2^40. A sum of these takes less than a test of each, since SSE2 cannot compare two u64 at once.
+fn above(step: u64) -> u64
+    ensures { λ r. ⌜ (eqb r 0 ≡ leb step unit) × (r < 16777216) ⌝ }
+{
+    (step - step / CeilingRate::UNIT) / CeilingRate::UNIT
 }
 
 // Whether each of the count steps from `from` on is at most 2^40.
 fn steps_in(counts: &[u64], from: usize, count: usize) -> bool
-    requires { ⌜ from + count ≤ length (now counts) ⌝ }
+    requires { ⌜ (from + count ≤ length (now counts)) × (count ≤ 65535) ⌝ }
     ensures { λ r. ⌜ r ≡ stepsIn (now (counts .entry)) from count ⌝ }
 {
+    let mut over: u64 = 0;
     let mut k = 0;
     while k < count {
-        if counts[from + k] <= CeilingRate::UNIT {
-            k += 1;
-        } else {
-            return false;
-        }
+        over += above(counts[from + k]);
+        k += 1;
     }
-    true
+    over == 0
 }
 
 // The sum of the count steps from `from` on.
@@ -429,7 +426,7 @@ pub fn well_formed(rate: CeilingRate, c: Ceiling, samples: &[f64], counts: &[u64
     if places < len {
         return false;
     }
-    if !in_unit(released) {
+    if !ranges::in_range(0.0, 1.0, released) {
         return false;
     }
     if !needs_in(samples, places, head, len) {

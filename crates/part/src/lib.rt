@@ -53,8 +53,7 @@ pub fn run(
 ) -> Outcome
     ensures { λ r. ⌜ went r (now (store .exit)) (now (counts .exit)) (now (frames .exit)) (now (gains .exit)) ≡ runCall (rateOf 44100) (state strip (now (store .entry)) (now (counts .entry))) (now (samples .entry)) drums (now (frames .entry)) (now (gains .entry)) ⌝ }
 {
-    let rate = Rate::cd();
-    let number = refusals::first(rate, strip, store, counts);
+    let number = refusals::first(strip, store, counts);
     if number != 0 {
         return Outcome::Declined(number, strip);
     }
@@ -62,7 +61,7 @@ pub fn run(
     if own != 0 {
         return Outcome::Declined(own, strip);
     }
-    let next = blocks::go(rate, strip, samples, drums, frames, gains, store, counts);
+    let next = blocks::go(strip, samples, drums, frames, gains, store, counts);
     Outcome::Now(next)
 }
 
@@ -98,8 +97,7 @@ fn latched(strip: Strip, controls: Controls) -> Strip
 pub fn latch(strip: Strip, controls: Controls, store: &[f64], counts: &[u64]) -> Outcome
     ensures { λ r. ⌜ r ≡ latchCall (rateOf 44100) (state strip (now (store .entry)) (now (counts .entry))) controls ⌝ }
 {
-    let rate = Rate::cd();
-    let number = refusals::first(rate, strip, store, counts);
+    let number = refusals::first(strip, store, counts);
     if number != 0 {
         return Outcome::Declined(number, strip);
     }
@@ -132,11 +130,11 @@ fn resting(rate: Rate, strip: Strip, store: &[f64], counts: &[u64]) -> bool
 pub fn rest(strip: Strip, store: &[f64], counts: &[u64]) -> Rested
     ensures { λ r. ⌜ r ≡ restCall (rateOf 44100) (state strip (now (store .entry)) (now (counts .entry))) ⌝ }
 {
-    let rate = Rate::cd();
-    let number = refusals::first(rate, strip, store, counts);
+    let number = refusals::first(strip, store, counts);
     if number != 0 {
         return Rested::Declined(number);
     }
+    let rate = Rate::cd();
     let answer = resting(rate, strip, store, counts);
     Rested::Rests(answer)
 }

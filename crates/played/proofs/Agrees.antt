@@ -27,7 +27,8 @@ use Rattle.master.specs.Ceiling.{sizeOf, largerOf, peakOf, needFor, needOf, lea
 use Rattle.master.specs.Kept.{framesIn, framesOut}
 use Rattle.strip.specs.Machine.{fresh, mixedStep, stepped, latched, resting, fed, fedAll, delivers, heardFrom}
 use Rattle.strip.specs.Promise.{refusal, eventsOf, feeds, accepted, says, expected}
-use Rattle.strip.specs.Refusals.{inRange, okUnit, okOutputs, okEnd, okSample, allOk, okControls, runRefusal, latchRefusal}
+use Rattle.ranges.specs.Ranges.{inRange, allInRange}
+use Rattle.strip.specs.Refusals.{okUnit, okOutputs, okEnd, okSamples, okControls, runRefusal, latchRefusal}
 use Rattle.played.specs.Lists.{Played, everything, plain, cd}
 
 -- what the machine answers to a list
@@ -35,13 +36,13 @@ abbrev Agrees : Played → Type 0
 Agrees p = expected (rateOf (p .rate)) (fresh (rateOf (p .rate)) (p .setup) (p .lists)) (p .calls) ≡ p .answers
 
 pub everything-agrees : Agrees everything
-unfolding narrowed floored twoTo stepOf identity down SIN COS EXP LN POW TANH SINH flushed gainOfDb poleOf onePoleAt onePoleStep tiltStep liftOf onePoleAtRest normalized angleOf lpf hpf bpf lowpassAt highpassAt bandpassAt butterQ lowpassRetuned sectionAt sectionStep retuned lowpassStep sectionAtRest lowpassAtRest powerFrom ringOf tapOf allZero held shaped rampAt toward sidechainGain marksAt timesGains duckStep limitOf ceilingRate rounded ceilOf samplesAt scaled predelayOf excursionOf reachOf inputRate leftTaps rightTaps halfRate leftRate rightRate tripOf decayOf diffusionOf dampingOf highpassOf plateRate rateOf warpOf wowOf flutterOf duckRate tapeRate blockOf daylightOf reached segment sweepAt swept cornerBetween driveBetween toneAt tuningAt phaseOf swellOf warpDelay saturated liftAt equalizerStep duckedStep tapeStep freshTone freshEqualizer freshTapeMachine equalizerAtRest tapeAtRest storedOf latticeFrom latticeStep stretchedStep delayStep inputStep halfStep leaving tapsOf fedOf turnOf stretchOf tankStep returnedOf plateStep freshHalf freshPlate inputAtRest halfAtRest atRest sizeOf largerOf peakOf needFor needOf least leastOf heldOf releasedOf lastOf total countOf lateOf gainOf clamped played deliver taken delivered ceilingStep framesIn framesOut fresh mixedStep stepped latched resting fed fedAll delivers heardFrom refusal eventsOf feeds accepted says expected inRange okUnit okOutputs okEnd okSample allOk okControls runRefusal latchRefusal add sub mul div neg le lt eq isNan ofInt ofBits toBits toSigned toUnsigned round
+unfolding narrowed floored twoTo stepOf identity down SIN COS EXP LN POW TANH SINH flushed gainOfDb poleOf onePoleAt onePoleStep tiltStep liftOf onePoleAtRest normalized angleOf lpf hpf bpf lowpassAt highpassAt bandpassAt butterQ lowpassRetuned sectionAt sectionStep retuned lowpassStep sectionAtRest lowpassAtRest powerFrom ringOf tapOf allZero held shaped rampAt toward sidechainGain marksAt timesGains duckStep limitOf ceilingRate rounded ceilOf samplesAt scaled predelayOf excursionOf reachOf inputRate leftTaps rightTaps halfRate leftRate rightRate tripOf decayOf diffusionOf dampingOf highpassOf plateRate rateOf warpOf wowOf flutterOf duckRate tapeRate blockOf daylightOf reached segment sweepAt swept cornerBetween driveBetween toneAt tuningAt phaseOf swellOf warpDelay saturated liftAt equalizerStep duckedStep tapeStep freshTone freshEqualizer freshTapeMachine equalizerAtRest tapeAtRest storedOf latticeFrom latticeStep stretchedStep delayStep inputStep halfStep leaving tapsOf fedOf turnOf stretchOf tankStep returnedOf plateStep freshHalf freshPlate inputAtRest halfAtRest atRest sizeOf largerOf peakOf needFor needOf least leastOf heldOf releasedOf lastOf total countOf lateOf gainOf clamped played deliver taken delivered ceilingStep framesIn framesOut fresh mixedStep stepped latched resting fed fedAll delivers heardFrom refusal eventsOf feeds accepted says expected inRange allInRange okUnit okOutputs okEnd okSamples okControls runRefusal latchRefusal add sub mul div neg le lt eq isNan ofInt ofBits toBits toSigned toUnsigned round
 everything-agrees = refl
 
 pub plain-agrees : Agrees plain
-unfolding narrowed floored twoTo stepOf identity down SIN COS EXP LN POW TANH SINH flushed gainOfDb poleOf onePoleAt onePoleStep tiltStep liftOf onePoleAtRest normalized angleOf lpf hpf bpf lowpassAt highpassAt bandpassAt butterQ lowpassRetuned sectionAt sectionStep retuned lowpassStep sectionAtRest lowpassAtRest powerFrom ringOf tapOf allZero held shaped rampAt toward sidechainGain marksAt timesGains duckStep limitOf ceilingRate rounded ceilOf samplesAt scaled predelayOf excursionOf reachOf inputRate leftTaps rightTaps halfRate leftRate rightRate tripOf decayOf diffusionOf dampingOf highpassOf plateRate rateOf warpOf wowOf flutterOf duckRate tapeRate blockOf daylightOf reached segment sweepAt swept cornerBetween driveBetween toneAt tuningAt phaseOf swellOf warpDelay saturated liftAt equalizerStep duckedStep tapeStep freshTone freshEqualizer freshTapeMachine equalizerAtRest tapeAtRest storedOf latticeFrom latticeStep stretchedStep delayStep inputStep halfStep leaving tapsOf fedOf turnOf stretchOf tankStep returnedOf plateStep freshHalf freshPlate inputAtRest halfAtRest atRest sizeOf largerOf peakOf needFor needOf least leastOf heldOf releasedOf lastOf total countOf lateOf gainOf clamped played deliver taken delivered ceilingStep framesIn framesOut fresh mixedStep stepped latched resting fed fedAll delivers heardFrom refusal eventsOf feeds accepted says expected inRange okUnit okOutputs okEnd okSample allOk okControls runRefusal latchRefusal add sub mul div neg le lt eq isNan ofInt ofBits toBits toSigned toUnsigned round
+unfolding narrowed floored twoTo stepOf identity down SIN COS EXP LN POW TANH SINH flushed gainOfDb poleOf onePoleAt onePoleStep tiltStep liftOf onePoleAtRest normalized angleOf lpf hpf bpf lowpassAt highpassAt bandpassAt butterQ lowpassRetuned sectionAt sectionStep retuned lowpassStep sectionAtRest lowpassAtRest powerFrom ringOf tapOf allZero held shaped rampAt toward sidechainGain marksAt timesGains duckStep limitOf ceilingRate rounded ceilOf samplesAt scaled predelayOf excursionOf reachOf inputRate leftTaps rightTaps halfRate leftRate rightRate tripOf decayOf diffusionOf dampingOf highpassOf plateRate rateOf warpOf wowOf flutterOf duckRate tapeRate blockOf daylightOf reached segment sweepAt swept cornerBetween driveBetween toneAt tuningAt phaseOf swellOf warpDelay saturated liftAt equalizerStep duckedStep tapeStep freshTone freshEqualizer freshTapeMachine equalizerAtRest tapeAtRest storedOf latticeFrom latticeStep stretchedStep delayStep inputStep halfStep leaving tapsOf fedOf turnOf stretchOf tankStep returnedOf plateStep freshHalf freshPlate inputAtRest halfAtRest atRest sizeOf largerOf peakOf needFor needOf least leastOf heldOf releasedOf lastOf total countOf lateOf gainOf clamped played deliver taken delivered ceilingStep framesIn framesOut fresh mixedStep stepped latched resting fed fedAll delivers heardFrom refusal eventsOf feeds accepted says expected inRange allInRange okUnit okOutputs okEnd okSamples okControls runRefusal latchRefusal add sub mul div neg le lt eq isNan ofInt ofBits toBits toSigned toUnsigned round
 plain-agrees = refl
 
 pub cd-agrees : Agrees cd
-unfolding narrowed floored twoTo stepOf identity down SIN COS EXP LN POW TANH SINH flushed gainOfDb poleOf onePoleAt onePoleStep tiltStep liftOf onePoleAtRest normalized angleOf lpf hpf bpf lowpassAt highpassAt bandpassAt butterQ lowpassRetuned sectionAt sectionStep retuned lowpassStep sectionAtRest lowpassAtRest powerFrom ringOf tapOf allZero held shaped rampAt toward sidechainGain marksAt timesGains duckStep limitOf ceilingRate rounded ceilOf samplesAt scaled predelayOf excursionOf reachOf inputRate leftTaps rightTaps halfRate leftRate rightRate tripOf decayOf diffusionOf dampingOf highpassOf plateRate rateOf warpOf wowOf flutterOf duckRate tapeRate blockOf daylightOf reached segment sweepAt swept cornerBetween driveBetween toneAt tuningAt phaseOf swellOf warpDelay saturated liftAt equalizerStep duckedStep tapeStep freshTone freshEqualizer freshTapeMachine equalizerAtRest tapeAtRest storedOf latticeFrom latticeStep stretchedStep delayStep inputStep halfStep leaving tapsOf fedOf turnOf stretchOf tankStep returnedOf plateStep freshHalf freshPlate inputAtRest halfAtRest atRest sizeOf largerOf peakOf needFor needOf least leastOf heldOf releasedOf lastOf total countOf lateOf gainOf clamped played deliver taken delivered ceilingStep framesIn framesOut fresh mixedStep stepped latched resting fed fedAll delivers heardFrom refusal eventsOf feeds accepted says expected inRange okUnit okOutputs okEnd okSample allOk okControls runRefusal latchRefusal add sub mul div neg le lt eq isNan ofInt ofBits toBits toSigned toUnsigned round
+unfolding narrowed floored twoTo stepOf identity down SIN COS EXP LN POW TANH SINH flushed gainOfDb poleOf onePoleAt onePoleStep tiltStep liftOf onePoleAtRest normalized angleOf lpf hpf bpf lowpassAt highpassAt bandpassAt butterQ lowpassRetuned sectionAt sectionStep retuned lowpassStep sectionAtRest lowpassAtRest powerFrom ringOf tapOf allZero held shaped rampAt toward sidechainGain marksAt timesGains duckStep limitOf ceilingRate rounded ceilOf samplesAt scaled predelayOf excursionOf reachOf inputRate leftTaps rightTaps halfRate leftRate rightRate tripOf decayOf diffusionOf dampingOf highpassOf plateRate rateOf warpOf wowOf flutterOf duckRate tapeRate blockOf daylightOf reached segment sweepAt swept cornerBetween driveBetween toneAt tuningAt phaseOf swellOf warpDelay saturated liftAt equalizerStep duckedStep tapeStep freshTone freshEqualizer freshTapeMachine equalizerAtRest tapeAtRest storedOf latticeFrom latticeStep stretchedStep delayStep inputStep halfStep leaving tapsOf fedOf turnOf stretchOf tankStep returnedOf plateStep freshHalf freshPlate inputAtRest halfAtRest atRest sizeOf largerOf peakOf needFor needOf least leastOf heldOf releasedOf lastOf total countOf lateOf gainOf clamped played deliver taken delivered ceilingStep framesIn framesOut fresh mixedStep stepped latched resting fed fedAll delivers heardFrom refusal eventsOf feeds accepted says expected inRange allInRange okUnit okOutputs okEnd okSamples okControls runRefusal latchRefusal add sub mul div neg le lt eq isNan ofInt ofBits toBits toSigned toUnsigned round
 cd-agrees = refl

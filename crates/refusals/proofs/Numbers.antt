@@ -9,13 +9,14 @@ use lib.Dec.{leb, eqb}
 use lib.Ieee.{Float}
 use borrow.Author.Tests.{eqb-true, leb-true}
 use Rattle.rate.specs.declared.Rate.{Rate}
-use Rattle.duck.specs.Rising.{risingFrom}
+use Rattle.casts.specs.Arithmetic.{nought, one}
+use Rattle.ranges.specs.Ranges.{allInRange, risingFrom}
 use Rattle.duck.specs.Cursors.{duckOn, duckFormed}
 use Rattle.tape.specs.Tape.{Lists}
 use Rattle.master.specs.WellFormed.{wellFormed}
 use Rattle.strip.specs.declared.Setup.{Setup}
 use Rattle.strip.specs.declared.Strip.{Strip}
-use Rattle.strip.specs.Refusals.{furthest, longEnough, okSetup, okRamp, allUnit, okPoints, okKicks, okLists, openRefusal}
+use Rattle.strip.specs.Refusals.{furthest, longEnough, okSetup, okRamp, okPoints, okKicks, okLists, openRefusal}
 use Rattle.strip.specs.Calls.{State, tapeIn, ceilingIn, listsIn, formed, first}
 use Rattle.refusals.specs.Pieces.{Sized, stripFormed}
 
@@ -111,7 +112,7 @@ module _ (r : Rate) (s : Setup) (l : Lists) (store : List Float) (counts : List 
       let c = passed (okLists l) 0 2 (b .1) in
       let d = both (okPoints (l .positions) (l .values)) (okKicks (l .kicks)) (c .0) in
       let p = both (leb (length (l .positions)) 256) _ (d .0) in
-      let v = both (eqb (length (l .positions)) (length (l .values))) (risingFrom 0 (l .positions) && allUnit (l .values)) (p .1) in
+      let v = both (eqb (length (l .positions)) (length (l .values))) (risingFrom 0 (l .positions) && allInRange nought one (l .values)) (p .1) in
       let f = both (leb (length (l .kicks)) 1024) _ (d .1) in
       let few = leb-true (length (l .positions)) 256 (p .0) in
       let same = eqb-true (length (l .positions)) (length (l .values)) (v .0) in

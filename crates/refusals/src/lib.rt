@@ -1,11 +1,12 @@
 // Document 01, 'When the part declines': a function for each ground, true where the part does not decline, and the numbers in their order.
-// Uses casts, duck, master and rate, and strip for the types and definitions.
+// Uses casts, ranges, duck, master and rate, and strip for the types and definitions.
 ghost use mathlib.Core.Path.{_≡_};
 ghost use Prim.Native.Nat.{_+_, _≤_};
 ghost use lib.ListN.{take, drop};
 ghost use Rattle.casts.specs.Arithmetic.{whole, nought};
-ghost use Rattle.rate.specs.Rate.{tapeSamples, plateSamples, ceilingSamples, valuesAt, tapeCounts, ceilingCounts, positionsAt, RateUsable};
-ghost use Rattle.strip.specs.Refusals.{inRange, longEnough, okCorner, okDrive, okUnit, okTone, okPad, okGain, okTape, okSetup, allUnit, okPoints, okKicks, okLists, okRamp, okOutputs, okEnd, okSample, allOk, okControls, runRefusal, latchRefusal, openRefusal};
+ghost use Rattle.ranges.specs.Ranges.{inRange};
+ghost use Rattle.rate.specs.Rate.{rateOf, tapeSamples, plateSamples, ceilingSamples, valuesAt, tapeCounts, ceilingCounts, positionsAt, RateUsable};
+ghost use Rattle.strip.specs.Refusals.{longEnough, okCorner, okDrive, okUnit, okTone, okPad, okGain, okTape, okSetup, okPoints, okKicks, okLists, okRamp, okOutputs, okEnd, okSamples, okControls, runRefusal, latchRefusal, openRefusal};
 ghost use Rattle.strip.specs.Calls.{state, formed, first};
 ghost use Rattle.duck.specs.Cursors.{duckOn, duckFormed};
 ghost use Rattle.master.specs.Kept.{ceilingOn};
@@ -39,22 +40,16 @@ pub fn long_enough(rate: Rate, store: &[f64], counts: &[u64]) -> bool
 
 // ---- 2
 
-fn in_range(lo: f64, hi: f64, x: f64) -> bool
-    ensures { λ r. ⌜ r ≡ inRange lo hi x ⌝ }
-{
-    if lo <= x { x <= hi } else { false }
-}
-
 fn ok_corner(x: f32) -> bool
     ensures { λ r. ⌜ r ≡ okCorner x ⌝ }
 {
-    in_range(20.0, 20000.0, casts::widen(x))
+    ranges::in_range(20.0, 20000.0, casts::widen(x))
 }
 
 fn ok_drive(x: f64) -> bool
     ensures { λ r. ⌜ r ≡ okDrive x ⌝ }
 {
-    in_range(0.1, 8.0, x)
+    ranges::in_range(0.1, 8.0, x)
 }
 
 fn ok_drive_f32(x: f32) -> bool
@@ -66,7 +61,7 @@ fn ok_drive_f32(x: f32) -> bool
 fn ok_unit(x: f64) -> bool
     ensures { λ r. ⌜ r ≡ okUnit x ⌝ }
 {
-    in_range(0.0, 1.0, x)
+    ranges::in_range(0.0, 1.0, x)
 }
 
 fn ok_unit_f32(x: f32) -> bool
@@ -78,7 +73,7 @@ fn ok_unit_f32(x: f32) -> bool
 fn ok_gain(x: f64) -> bool
     ensures { λ r. ⌜ r ≡ okGain x ⌝ }
 {
-    in_range(0.0, 16.0, x)
+    ranges::in_range(0.0, 16.0, x)
 }
 
 fn ok_fixed(corner: f32, drive: f64) -> bool
@@ -122,7 +117,7 @@ fn ok_tone(tone: Tone) -> bool
 fn ok_hz(x: f32) -> bool
     ensures { λ r. ⌜ r ≡ inRange nought (whole 20) x ⌝ }
 {
-    in_range(0.0, 20.0, casts::widen(x))
+    ranges::in_range(0.0, 20.0, casts::widen(x))
 }
 
 fn ok_swell(hz: f32, depth: f32) -> bool
@@ -178,19 +173,6 @@ pub fn ok_setup(setup: Setup) -> bool
 
 // ---- 3
 
-fn all_unit(values: &[f64]) -> bool
-    ensures { λ r. ⌜ r ≡ allUnit (now (values .entry)) ⌝ }
-{
-    let mut i: usize = 0;
-    while i < values.len() {
-        if !ok_unit(values[i]) {
-            return false;
-        }
-        i += 1;
-    }
-    true
-}
-
 fn ok_points(positions: &[u64], values: &[f64]) -> bool
     ensures { λ r. ⌜ r ≡ okPoints (now (positions .entry)) (now (values .entry)) ⌝ }
 {
@@ -201,10 +183,10 @@ fn ok_points(positions: &[u64], values: &[f64]) -> bool
     if n != values.len() {
         return false;
     }
-    if !duck::rising(positions) {
+    if !ranges::rising(positions) {
         return false;
     }
-    all_unit(values)
+    ranges::all_in_range(0.0, 1.0, values)
 }
 
 fn ok_kicks(kicks: &[u64]) -> bool
@@ -213,7 +195,7 @@ fn ok_kicks(kicks: &[u64]) -> bool
     if 1024 < kicks.len() {
         return false;
     }
-    duck::rising(kicks)
+    ranges::rising(kicks)
 }
 
 fn ok_lists(positions: &[u64], values: &[f64], kicks: &[u64]) -> bool
@@ -340,11 +322,11 @@ fn formed(rate: Rate, strip: Strip, store: &[f64], counts: &[u64]) -> bool
     ceiling_formed(rate, ceiling, store, counts)
 }
 
-// 1 and 4, or 0.
-pub fn first(rate: Rate, strip: Strip, store: &[f64], counts: &[u64]) -> u64
-    requires { ⌜ RateUsable rate ⌝ }
-    ensures { λ r. ⌜ r ≡ first rate (state strip (now (store .entry)) (now (counts .entry))) 0 ⌝ }
+// 1 and 4, or 0. The rate is made here, so that its numbers are constants to the compiler.
+pub fn first(strip: Strip, store: &[f64], counts: &[u64]) -> u64
+    ensures { λ r. ⌜ r ≡ first (rateOf 44100) (state strip (now (store .entry)) (now (counts .entry))) 0 ⌝ }
 {
+    let rate = Rate::cd();
     if !long_enough(rate, store, counts) {
         return 1;
     }
@@ -380,23 +362,10 @@ fn ok_end(position: u64, samples: usize) -> bool
     samples as u64 <= LAST - position
 }
 
-fn ok_sample(x: f64) -> bool
-    ensures { λ r. ⌜ r ≡ okSample x ⌝ }
+fn ok_samples(samples: &[f64]) -> bool
+    ensures { λ r. ⌜ r ≡ okSamples (now (samples .entry)) ⌝ }
 {
-    in_range(-1024.0, 1024.0, x)
-}
-
-fn all_ok(samples: &[f64]) -> bool
-    ensures { λ r. ⌜ r ≡ allOk (now (samples .entry)) ⌝ }
-{
-    let mut i: usize = 0;
-    while i < samples.len() {
-        if !ok_sample(samples[i]) {
-            return false;
-        }
-        i += 1;
-    }
-    true
+    ranges::all_in_range(-1024.0, 1024.0, samples)
 }
 
 // 5, 6 and 7, or 0.
@@ -410,7 +379,7 @@ pub fn run_refusal(position: u64, samples: &[f64], frames: usize, gains: usize) 
     if !ok_end(position, n) {
         return 6;
     }
-    if all_ok(samples) { 0 } else { 7 }
+    if ok_samples(samples) { 0 } else { 7 }
 }
 
 // ---- 8

@@ -5,10 +5,11 @@ use mathlib.Core.List.{List, [], _∷_}
 use Prim.Native.Nat.{ℕ, _-_}
 use lib.ListN.{length}
 use lib.Ieee.{Float, ofBits, neg, le, ofInt}
+use Rattle.ranges.specs.Ranges.{inRange, allInRange}
 use Rattle.rate.specs.Rate.{rateOf}
 use Rattle.tape.specs.Tape.{Lists}
 use Rattle.strip.specs.declared.Setup.{Setup}
-use Rattle.strip.specs.Refusals.{furthest, inRange, longEnough, okOutputs, okEnd, okSample, allOk, runRefusal, openRefusal}
+use Rattle.strip.specs.Refusals.{furthest, longEnough, okOutputs, okEnd, okSamples, runRefusal, openRefusal}
 use Rattle.strip.specs.Calls.{State, first}
 use Rattle.strip.specs.Edges.{Edges}
 
@@ -20,11 +21,11 @@ others-short : (st : State) (own : ℕ) → length (st .store) ≡ 49151 → fir
 unfolding rateOf first longEnough
 others-short st own e = rw e
 
-last-sample : (x : Float) → okSample x ≡ true → runRefusal (furthest - 1) (x ∷ []) 2 1 ≡ 0
-unfolding runRefusal okOutputs okEnd allOk
+last-sample : (x : Float) → okSamples (x ∷ []) ≡ true → runRefusal (furthest - 1) (x ∷ []) 2 1 ≡ 0
+unfolding runRefusal okOutputs okEnd
 last-sample x e = rw e
 
 pub edges : Edges (rateOf 44100)
-unfolding runRefusal okOutputs okEnd allOk okSample inRange ofBits neg le ofInt
+unfolding runRefusal okOutputs okEnd okSamples allInRange inRange ofBits neg le ofInt
 edges =
     record { opening = open-short; others = others-short; passes = refl; above = refl; below = refl; last = last-sample; two = λ x y. refl; none = refl }

@@ -17,7 +17,7 @@ use Rattle.strip.specs.declared.Setup.{Setup}
 use Rattle.strip.specs.declared.Controls.{Controls}
 use Rattle.strip.specs.declared.Strip.{Strip}
 use Rattle.strip.specs.declared.Opened as opened
-use Rattle.strip.specs.Refusals.{furthest, okUnit, okOutputs, okEnd, allOk, okControls, runRefusal, latchRefusal, openRefusal}
+use Rattle.strip.specs.Refusals.{furthest, okUnit, okOutputs, okEnd, okSamples, okControls, runRefusal, latchRefusal, openRefusal}
 use Rattle.strip.specs.Machine.{Machine, Event, sample, latch, fresh, stepped, latched, fed, fedAll, delivers, heardFrom, resting}
 use Rattle.strip.specs.Calls.{State, state, ranOn, heardOn, first, openedState, OpenDone, openCall, runCall, latchCall, restCall}
 use Rattle.strip.specs.Promise.{Call, run, move, ask, Answer, ran, moved, rests, declined, answerTo, after, through, refusal, eventsOf, feeds, accepted, says, expected, Joined, framesIn, countsIn, joinedFrames, joinedCounts, takes, joinedEvents, JoinedAre}
@@ -30,7 +30,7 @@ pub run-room : (n : ℕ) (xs : List Float) (f c : ℕ) → runRefusal n xs f c �
 unfolding runRefusal okEnd
 run-room n xs f c e =
     let a = passed (okOutputs (length xs) f c) _ 4 e in
-    let b = passed (leb (n + length xs) furthest) (cond (allOk xs) 0 7) 5 (a .1) in
+    let b = passed (leb (n + length xs) furthest) (cond (okSamples xs) 0 7) 5 (a .1) in
     leb-true _ _ (b .0)
 
 latch-room : (c : Controls) → latchRefusal c ≡ 0 → (c .grading ≤ furthest) × (c .darkening ≤ furthest)

@@ -14,7 +14,7 @@ use Rattle.ramp.specs.declared.Shape.the-variants.{Linear}
 use Rattle.ramp.specs.Ramp.{held}
 use Rattle.rate.specs.declared.Rate.{Rate}
 use Rattle.rate.specs.Rate.{RateUsable, tapeSamples, plateSamples, ceilingSamples, valuesAt, tapeCounts, ceilingCounts, positionsAt, mostPoints}
-use Rattle.duck.specs.Rising.{risingFrom}
+use Rattle.ranges.specs.Ranges.{risingFrom}
 use Rattle.duck.specs.Cursors.{kicksIn, laid}
 use Rattle.tape.specs.Tape.{Lists, freshTape, freshTapeMachine}
 use Rattle.tape.specs.Kept.{TapeIn, tapeOn}
@@ -31,7 +31,7 @@ use Rattle.master.proofs.Refines as refines
 use Rattle.master.proofs.Opening.{fresh-is, fresh-ready, filled-length}
 use Rattle.strip.specs.declared.Setup.{Setup}
 use Rattle.strip.specs.declared.Strip.{Strip}
-use Rattle.strip.specs.Refusals.{furthest, longEnough, okSetup, okPoints, okKicks, okLists, okRamp, allUnit, openRefusal}
+use Rattle.strip.specs.Refusals.{furthest, longEnough, okSetup, okPoints, okKicks, okLists, okRamp, openRefusal}
 use Rattle.strip.specs.Machine.{Machine, fresh}
 use Rattle.strip.specs.Calls.{State, state, tapeIn, plateIn, ceilingIn, listsIn, whole, openedStrip, openedState}
 use Rattle.strip.proofs.Parts.{Long, tape-of, plate-of, ceiling-of, values-of, positions-of, parts-long}

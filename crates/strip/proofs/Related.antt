@@ -18,7 +18,7 @@ use Rattle.rate.specs.declared.Rate.{Rate}
 use Rattle.rate.specs.declared.PlateRate.{PlateRate}
 use Rattle.rate.specs.Rate.{RateUsable, tapeSamples, plateSamples, ceilingSamples, valuesAt, tapeCounts, ceilingCounts, positionsAt, mostPoints}
 use Rattle.rate.specs.Plate.{PlateUsable}
-use Rattle.duck.specs.Rising.{risingFrom}
+use Rattle.ranges.specs.Ranges.{risingFrom}
 use Rattle.duck.specs.Cursors.{duckOn, kicksIn, duckFormed}
 use Rattle.tape.specs.Tape.{Lists, TapeMachine, tapeStep, tapeAtRest}
 use Rattle.tape.specs.Kept.{TapeIn, tapeOn, tapeStepOn, tapeAtRestOn}

@@ -9,7 +9,7 @@ use Rattle.casts.specs.Arithmetic.{whole}
 use Rattle.tape.specs.Tape.{Lists}
 use Rattle.rate.specs.declared.Rate.{Rate}
 use Rattle.strip.specs.declared.Setup.{Setup}
-use Rattle.strip.specs.Refusals.{furthest, okSample, runRefusal, openRefusal}
+use Rattle.strip.specs.Refusals.{furthest, okSamples, runRefusal, openRefusal}
 use Rattle.strip.specs.Calls.{State, first}
 
 -- the f64 after 1,024
@@ -25,7 +25,7 @@ pub record Edges (r : Rate) : Type 0 where
   pub above : runRefusal 0 (past ∷ []) 2 1 ≡ 7
   pub below : runRefusal 0 (neg past ∷ []) 2 1 ≡ 7
   -- "at position 2^32 − 1 one sample passes, two are 6"
-  pub last : (x : Float) → okSample x ≡ true → runRefusal (furthest - 1) (x ∷ []) 2 1 ≡ 0
+  pub last : (x : Float) → okSamples (x ∷ []) ≡ true → runRefusal (furthest - 1) (x ∷ []) 2 1 ≡ 0
   pub two : (x y : Float) → runRefusal (furthest - 1) (x ∷ y ∷ []) 4 2 ≡ 6
   -- "an empty run at 2^32 passes"
   pub none : runRefusal furthest [] 0 0 ≡ 0

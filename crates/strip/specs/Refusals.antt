@@ -1,16 +1,16 @@
 -- Document 01, 'When the part declines'. Each ground is a test that is true where the part does not decline. `openRefusal`, `runRefusal` and `latchRefusal` have the numbers and
 -- their order; `first` in Calls puts 1 and 4 before a call's own.
 use Prim.Native.Nat.{ℕ, _+_, _*_}
-use mathlib.Core.Bool.{Bool, true, false, cond, _&&_}
-use mathlib.Core.List.{List, [], _∷_}
+use mathlib.Core.Bool.{Bool, true, cond, _&&_}
+use mathlib.Core.List.{List}
 use lib.Dec.{leb, eqb}
 use lib.ListN.{length}
-use lib.Ieee.{Float, binary64, ofBits, neg, le}
+use lib.Ieee.{Float, binary64, ofBits, neg}
 use Rattle.casts.specs.Arithmetic.{whole, nought, one}
+use Rattle.ranges.specs.Ranges.{inRange, allInRange, risingFrom}
 use Rattle.ramp.specs.declared.Ramp.{Ramp}
 use Rattle.automation.specs.declared.Tone.{Tone}
 use Rattle.automation.specs.declared.Tone.the-variants.{Fixed, Graded}
-use Rattle.duck.specs.Rising.{risingFrom}
 use Rattle.oscillators.specs.declared.Pad.{Pad}
 use Rattle.oscillators.specs.declared.Pad.the-variants.{Without, Swell}
 use Rattle.tape.specs.declared.TapeSetup.{TapeSetup}
@@ -22,10 +22,6 @@ use Rattle.strip.specs.declared.Controls.{Controls}
 -- 2^32
 abbrev pub furthest : ℕ
 furthest = 4294967296
-
--- "(ends allowed)"; a NaN is in no range
-unfoldable pub inRange : Float → Float → Float → Bool
-inRange lo hi x = le lo x && le x hi
 
 -- "1. A lent store is shorter than 49,152 f64 or 4,096 u64 (all calls)."
 unfoldable pub longEnough : Rate → List Float → List ℕ → Bool
@@ -67,12 +63,8 @@ okSetup s = okTape (s .tape) && (okUnit (s .daylight) && (okUnit (s .rain) && ok
 
 -- "3. A list is too long, falls, has positions and values unequal in number, a value outside 0 to 1 or NaN, or a position above 2^32 (open)."
 -- "At most 256 sweep points (position, value 0 to 1) and 1,024 kick positions, each list never falling, positions at most 2^32."
-unfoldable pub allUnit : List Float → Bool
-allUnit [] = true
-allUnit (x ∷ xs) = okUnit x && allUnit xs
-
 unfoldable pub okPoints : List ℕ → List Float → Bool
-okPoints positions values = leb (length positions) 256 && (eqb (length positions) (length values) && (risingFrom 0 positions && allUnit values))
+okPoints positions values = leb (length positions) 256 && (eqb (length positions) (length values) && (risingFrom 0 positions && allInRange nought one values))
 
 unfoldable pub okKicks : List ℕ → Bool
 okKicks kicks = leb (length kicks) 1024 && risingFrom 0 kicks
@@ -93,12 +85,8 @@ unfoldable pub okEnd : ℕ → ℕ → Bool
 okEnd position samples = leb (position + samples) furthest
 
 -- "7. A sample is not finite or its size exceeds 1,024 (run)."
-unfoldable pub okSample : Float → Bool
-okSample x = inRange (neg (whole 1024)) (whole 1024) x
-
-unfoldable pub allOk : List Float → Bool
-allOk [] = true
-allOk (x ∷ xs) = okSample x && allOk xs
+unfoldable pub okSamples : List Float → Bool
+okSamples xs = allInRange (neg (whole 1024)) (whole 1024) xs
 
 -- "8. A control is NaN or outside 0 to 1, or a ramp length exceeds 2^32 (latch)."
 unfoldable pub okControls : Controls → Bool
@@ -107,7 +95,7 @@ okControls c = okUnit (c .daylight) && (okUnit (c .rain) && (leb (c .grading) fu
 -- ---- "Checked in this order; the first that fits is returned." 0: none fits
 
 unfoldable pub runRefusal : ℕ → List Float → ℕ → ℕ → ℕ
-runRefusal position xs frames gains = cond (okOutputs (length xs) frames gains) (cond (okEnd position (length xs)) (cond (allOk xs) 0 7) 6) 5
+runRefusal position xs frames gains = cond (okOutputs (length xs) frames gains) (cond (okEnd position (length xs)) (cond (okSamples xs) 0 7) 6) 5
 
 unfoldable pub latchRefusal : Controls → ℕ
 latchRefusal c = cond (okControls c) 0 8

@@ -27,7 +27,7 @@ use Rattle.ramp.specs.declared.Ramp.{Ramp}
 use Rattle.rate.specs.declared.TapeRate.{TapeRate}
 use Rattle.rate.specs.Tape.{TapeUsable}
 use Rattle.sidechain.specs.declared.DuckRate.{DuckRate}
-use Rattle.duck.specs.Rising.{risingFrom}
+use Rattle.ranges.specs.Ranges.{risingFrom}
 use Rattle.duck.specs.Duck.{unmarked}
 use Rattle.duck.specs.Cursors.{DuckIn, duckOn, kicksIn, laid, Within, duckStepOn, duckFormed}
 use Rattle.duck.proofs.Loops.{gain-sized}

@@ -1,93 +1,110 @@
 use borrow.Author.Needs.{needs}
 use native.Mathlib.Omega.{arith}
-use mathlib.Core.Path.{_≡_, refl, ap, _∙_}
-use Prim.Native.Nat.{_-_}
+use mathlib.Core.Path.{_≡_, refl, sym, _∙_}
+use Prim.Native.Nat.{_-_, _*_}
 use lib.ListN.{length}
+use Rattle.rate.specs.Rate.{RateUsable}
+use Rattle.rate.proofs.Rates.{usable-44100}
 use Rattle.tape.proofs.Lasting.{tuned-some}
 use Rattle.strip.specs.Calls.{state, listsIn}
+use Rattle.blocks.specs.Run.{Runs}
 use Rattle.blocks.proofs.Going.{Going, go-start, go-turn, go-done}
 use Rattle.blocks.proofs.go.Statement.{statement}
 use Rattle.blocks.proofs.go.Tie as tie
 
 abbrev Inv-loop : tie.InvT-loop
-Inv-loop rate samples drums frames₀ gains₀ store₀ counts₀ strip₀ i₀ frames gains store counts strip i =
+Inv-loop samples drums frames₀ gains₀ store₀ counts₀ rate strip₀ i₀ frames gains store counts strip i =
     Going rate drums (state strip₀ store₀ counts₀) samples (state strip store counts) frames gains i
-    × ((length frames ≡ length frames₀) × (length gains ≡ length gains₀) × (length store ≡ length store₀) × (length counts ≡ length counts₀))
+    × ((length frames ≡ 2 * length samples) × (length gains ≡ length samples) × (length store ≡ length store₀) × (length counts ≡ length counts₀))
 
 abbrev μ-loop : tie.MeasureT-loop
-μ-loop rate samples drums frames₀ gains₀ store₀ counts₀ strip₀ i₀ frames gains store counts strip i = length samples - i
+μ-loop samples drums frames₀ gains₀ store₀ counts₀ rate strip₀ i₀ frames gains store counts strip i = length samples - i
+
+cd-requires : tie.Need-cd-requires Inv-loop μ-loop
+cd-requires c κs = search needs
 
 loop-holds : tie.Need-loop-holds Inv-loop μ-loop
-loop-holds c = let s = c .before .before .before .before .before in
-    (go-start (s .args .rate) (s .pre .0) (s .args .drums) (state (s .args .strip) (s .args .store .now) (s .args .counts .now)) (s .args .samples .now) (s .args .frames .now) (s .args .gains .now) (s .pre .1 .0) (s .pre .1 .1 .1 .0) (s .pre .1 .1 .1 .1), (refl, refl, refl, refl))
+loop-holds c =
+    let s = c .before .before .before .before .before .before in
+    let u : RateUsable (c .cd .result) = rw (c .cd .ensures) usable-44100 in
+    let runs : Runs (c .cd .result) (state (s .args .strip) (s .args .store .now) (s .args .counts .now)) = rw (c .cd .ensures) (s .pre .0) in
+    (
+      go-start (c .cd .result) u (s .args .drums) (state (s .args .strip) (s .args .store .now) (s .args .counts .now)) (s .args .samples .now) (s .args .frames .now) (s .args .gains .now) runs (s .pre .1 .1 .0) (s .pre .1 .1 .1),
+      (s .pre .1 .1 .0, s .pre .1 .1 .1, refl, refl),
+    )
 
 tuned-requires : tie.Need-tuned-requires Inv-loop μ-loop
-tuned-requires c κs = let s = c .before .before .before .before .before .before .before .before .before in
+tuned-requires c κs =
+    let s = c .before .before .before .before .before .before .before .before .before .before in
+    let r = c .before .before .before .before .cd in
     let l = c .before .before .before .loop in
-    (s .pre .0, (l .inv .0 .runs, omega (arith, l .inv .0 .place, c .before .before .loop-test .taken, s .pre .1 .1 .0)))
+    (rw (r .ensures) usable-44100, (l .inv .0 .runs, omega (arith, l .inv .0 .place, c .before .before .loop-test .taken, s .pre .1 .0)))
 
 sub-block-len : tie.Need-sub-block-len Inv-loop μ-loop
 sub-block-len c = search needs
 
 block-len-requires : tie.Need-block-len-requires Inv-loop μ-loop
-block-len-requires c κs = let s = c .before .before .before .before .before .before .before .before .before .before in
+block-len-requires c κs =
+    let r = c .before .before .before .before .before .cd .result in
     let l = c .before .before .before .before .loop in
-    let lists = listsIn (s .args .rate) (state (l .strip) (l .store) (l .counts)) in
-    (rw (c .tuned .ensures) (tuned-some (s .args .rate .tape) (l .strip .setup .tape .tone) (l .strip .daylight) (lists .positions) (lists .values) (l .strip .position) (l .strip .tape)), omega (arith, c .before .before .before .loop-test .taken))
+    let lists = listsIn r (state (l .strip) (l .store) (l .counts)) in
+    (rw (c .tuned .ensures) (tuned-some (r .tape) (l .strip .setup .tape .tone) (l .strip .daylight) (lists .positions) (lists .values) (l .strip .position) (l .strip .tape)), omega (arith, c .before .before .before .loop-test .taken))
 
 add-e : tie.Need-add-e Inv-loop μ-loop
-add-e c = omega (arith, c .before .before .before .before .loop-test .taken, c .before .before .before .before .before .loop .inv .1 .0, c .before .before .before .before .before .loop .inv .1 .1, c .before .before .before .before .before .before .before .before .before .before .before .pre .1 .1 .1 .0, c .before .before .before .before .before .before .before .before .before .before .before .pre .1 .1 .1 .1, c .before .before .before .before .before .before .before .before .before .before .before .good .1 .1 .0 .1, c .before .before .before .before .before .before .before .before .before .before .before .good .1 .1 .1 .1 .0 .1, c .before .before .before .before .before .before .before .before .before .before .before .good .1 .1 .1 .1 .1 .0 .1, c .block-len .ensures .2)
+add-e c = omega (arith, c .block-len .ensures .2, c .before .before .before .before .loop-test .taken, c .before .before .before .before .before .loop .inv .1, c .before .before .before .before .before .before .before .before .before .before .before .before .pre .1 .0)
 
 mul-from : tie.Need-mul-from Inv-loop μ-loop
-mul-from c = omega (arith, c .before .before .before .before .loop-test .taken, c .before .before .before .before .before .loop .inv .1 .0, c .before .before .before .before .before .loop .inv .1 .1, c .before .before .before .before .before .before .before .before .before .before .before .pre .1 .1 .1 .0, c .before .before .before .before .before .before .before .before .before .before .before .pre .1 .1 .1 .1, c .before .before .before .before .before .before .before .before .before .before .before .good .1 .1 .0 .1, c .before .before .before .before .before .before .before .before .before .before .before .good .1 .1 .1 .1 .0 .1, c .before .before .before .before .before .before .before .before .before .before .before .good .1 .1 .1 .1 .1 .0 .1, c .block-len .ensures .2)
+mul-from c = omega (arith, c .block-len .ensures .2, c .before .before .before .before .loop-test .taken, c .before .before .before .before .before .loop .inv .1, c .before .before .before .before .before .before .before .before .before .before .before .before .pre .1 .0)
 
 mul-to : tie.Need-mul-to Inv-loop μ-loop
-mul-to c = omega (arith, c .before .before .before .before .loop-test .taken, c .before .before .before .before .before .loop .inv .1 .0, c .before .before .before .before .before .loop .inv .1 .1, c .before .before .before .before .before .before .before .before .before .before .before .pre .1 .1 .1 .0, c .before .before .before .before .before .before .before .before .before .before .before .pre .1 .1 .1 .1, c .before .before .before .before .before .before .before .before .before .before .before .good .1 .1 .0 .1, c .before .before .before .before .before .before .before .before .before .before .before .good .1 .1 .1 .1 .0 .1, c .before .before .before .before .before .before .before .before .before .before .before .good .1 .1 .1 .1 .1 .0 .1, c .block-len .ensures .2)
+mul-to c = omega (arith, c .block-len .ensures .2, c .before .before .before .before .loop-test .taken, c .before .before .before .before .before .loop .inv .1, c .before .before .before .before .before .before .before .before .before .before .before .before .pre .1 .0)
 
 mul-block : tie.Need-mul-block Inv-loop μ-loop
-mul-block c = omega (arith, c .before .before .before .before .loop-test .taken, c .before .before .before .before .before .loop .inv .1 .0, c .before .before .before .before .before .loop .inv .1 .1, c .before .before .before .before .before .before .before .before .before .before .before .pre .1 .1 .1 .0, c .before .before .before .before .before .before .before .before .before .before .before .pre .1 .1 .1 .1, c .before .before .before .before .before .before .before .before .before .before .before .good .1 .1 .0 .1, c .before .before .before .before .before .before .before .before .before .before .before .good .1 .1 .1 .1 .0 .1, c .before .before .before .before .before .before .before .before .before .before .before .good .1 .1 .1 .1 .1 .0 .1, c .block-len .ensures .2)
+mul-block c = omega (arith, c .block-len .ensures .2, c .before .before .before .before .loop-test .taken, c .before .before .before .before .before .loop .inv .1, c .before .before .before .before .before .before .before .before .before .before .before .before .pre .1 .0)
 
 sub-block : tie.Need-sub-block Inv-loop μ-loop
-sub-block c = omega (arith, c .before .before .before .before .loop-test .taken, c .before .before .before .before .before .loop .inv .1 .0, c .before .before .before .before .before .loop .inv .1 .1, c .before .before .before .before .before .before .before .before .before .before .before .pre .1 .1 .1 .0, c .before .before .before .before .before .before .before .before .before .before .before .pre .1 .1 .1 .1, c .before .before .before .before .before .before .before .before .before .before .before .good .1 .1 .0 .1, c .before .before .before .before .before .before .before .before .before .before .before .good .1 .1 .1 .1 .0 .1, c .before .before .before .before .before .before .before .before .before .before .before .good .1 .1 .1 .1 .1 .0 .1, c .block-len .ensures .2)
+sub-block c = omega (arith, c .block-len .ensures .2, c .before .before .before .before .loop-test .taken, c .before .before .before .before .before .loop .inv .1, c .before .before .before .before .before .before .before .before .before .before .before .before .pre .1 .0)
 
 part-block-start : tie.Need-part-block-start Inv-loop μ-loop
-part-block-start c = omega (arith, c .before .before .before .before .loop-test .taken, c .before .before .before .before .before .loop .inv .1 .0, c .before .before .before .before .before .loop .inv .1 .1, c .before .before .before .before .before .before .before .before .before .before .before .pre .1 .1 .1 .0, c .before .before .before .before .before .before .before .before .before .before .before .pre .1 .1 .1 .1, c .before .before .before .before .before .before .before .before .before .before .before .good .1 .1 .0 .1, c .before .before .before .before .before .before .before .before .before .before .before .good .1 .1 .1 .1 .0 .1, c .before .before .before .before .before .before .before .before .before .before .before .good .1 .1 .1 .1 .1 .0 .1, c .block-len .ensures .2)
+part-block-start c = omega (arith, c .block-len .ensures .2, c .before .before .before .before .loop-test .taken, c .before .before .before .before .before .loop .inv .1, c .before .before .before .before .before .before .before .before .before .before .before .before .pre .1 .0)
 
 part-block-end : tie.Need-part-block-end Inv-loop μ-loop
-part-block-end c = omega (arith, c .before .before .before .before .loop-test .taken, c .before .before .before .before .before .loop .inv .1 .0, c .before .before .before .before .before .loop .inv .1 .1, c .before .before .before .before .before .before .before .before .before .before .before .pre .1 .1 .1 .0, c .before .before .before .before .before .before .before .before .before .before .before .pre .1 .1 .1 .1, c .before .before .before .before .before .before .before .before .before .before .before .good .1 .1 .0 .1, c .before .before .before .before .before .before .before .before .before .before .before .good .1 .1 .1 .1 .0 .1, c .before .before .before .before .before .before .before .before .before .before .before .good .1 .1 .1 .1 .1 .0 .1, c .block-len .ensures .2)
+part-block-end c = omega (arith, c .block-len .ensures .2, c .before .before .before .before .loop-test .taken, c .before .before .before .before .before .loop .inv .1, c .before .before .before .before .before .before .before .before .before .before .before .before .pre .1 .0)
 
 mul-block-2 : tie.Need-mul-block-2 Inv-loop μ-loop
-mul-block-2 c = omega (arith, c .before .before .before .before .before .loop-test .taken, c .before .before .before .before .before .before .loop .inv .1 .0, c .before .before .before .before .before .before .loop .inv .1 .1, c .before .before .before .before .before .before .before .before .before .before .before .before .pre .1 .1 .1 .0, c .before .before .before .before .before .before .before .before .before .before .before .before .pre .1 .1 .1 .1, c .before .before .before .before .before .before .before .before .before .before .before .before .good .1 .1 .0 .1, c .before .before .before .before .before .before .before .before .before .before .before .before .good .1 .1 .1 .1 .0 .1, c .before .before .before .before .before .before .before .before .before .before .before .before .good .1 .1 .1 .1 .1 .0 .1, c .before .block-len .ensures .2)
+mul-block-2 c = omega (arith, c .before .block-len .ensures .2, c .before .before .before .before .before .loop-test .taken, c .before .before .before .before .before .before .loop .inv .1, c .before .before .before .before .before .before .before .before .before .before .before .before .before .pre .1 .0)
 
 sub-block-2 : tie.Need-sub-block-2 Inv-loop μ-loop
-sub-block-2 c = omega (arith, c .before .before .before .before .before .loop-test .taken, c .before .before .before .before .before .before .loop .inv .1 .0, c .before .before .before .before .before .before .loop .inv .1 .1, c .before .before .before .before .before .before .before .before .before .before .before .before .pre .1 .1 .1 .0, c .before .before .before .before .before .before .before .before .before .before .before .before .pre .1 .1 .1 .1, c .before .before .before .before .before .before .before .before .before .before .before .before .good .1 .1 .0 .1, c .before .before .before .before .before .before .before .before .before .before .before .before .good .1 .1 .1 .1 .0 .1, c .before .before .before .before .before .before .before .before .before .before .before .before .good .1 .1 .1 .1 .1 .0 .1, c .before .block-len .ensures .2)
+sub-block-2 c = omega (arith, c .before .block-len .ensures .2, c .before .before .before .before .before .loop-test .taken, c .before .before .before .before .before .before .loop .inv .1, c .before .before .before .before .before .before .before .before .before .before .before .before .before .pre .1 .0)
 
 part-block-start-2 : tie.Need-part-block-start-2 Inv-loop μ-loop
-part-block-start-2 c = omega (arith, c .before .before .before .before .before .loop-test .taken, c .before .before .before .before .before .before .loop .inv .1 .0, c .before .before .before .before .before .before .loop .inv .1 .1, c .before .before .before .before .before .before .before .before .before .before .before .before .pre .1 .1 .1 .0, c .before .before .before .before .before .before .before .before .before .before .before .before .pre .1 .1 .1 .1, c .before .before .before .before .before .before .before .before .before .before .before .before .good .1 .1 .0 .1, c .before .before .before .before .before .before .before .before .before .before .before .before .good .1 .1 .1 .1 .0 .1, c .before .before .before .before .before .before .before .before .before .before .before .before .good .1 .1 .1 .1 .1 .0 .1, c .before .block-len .ensures .2)
+part-block-start-2 c = omega (arith, c .before .block-len .ensures .2, c .before .before .before .before .before .loop-test .taken, c .before .before .before .before .before .before .loop .inv .1, c .before .before .before .before .before .before .before .before .before .before .before .before .before .pre .1 .0)
 
 part-block-end-2 : tie.Need-part-block-end-2 Inv-loop μ-loop
-part-block-end-2 c = omega (arith, c .before .before .before .before .before .loop-test .taken, c .before .before .before .before .before .before .loop .inv .1 .0, c .before .before .before .before .before .before .loop .inv .1 .1, c .before .before .before .before .before .before .before .before .before .before .before .before .pre .1 .1 .1 .0, c .before .before .before .before .before .before .before .before .before .before .before .before .pre .1 .1 .1 .1, c .before .before .before .before .before .before .before .before .before .before .before .before .good .1 .1 .0 .1, c .before .before .before .before .before .before .before .before .before .before .before .before .good .1 .1 .1 .1 .0 .1, c .before .before .before .before .before .before .before .before .before .before .before .before .good .1 .1 .1 .1 .1 .0 .1, c .before .block-len .ensures .2)
+part-block-end-2 c = omega (arith, c .before .block-len .ensures .2, c .before .before .before .before .before .loop-test .taken, c .before .before .before .before .before .before .loop .inv .1, c .before .before .before .before .before .before .before .before .before .before .before .before .before .pre .1 .0)
 
 mul-block-3 : tie.Need-mul-block-3 Inv-loop μ-loop
-mul-block-3 c = omega (arith, c .before .before .before .before .before .before .loop-test .taken, c .before .before .before .before .before .before .before .loop .inv .1 .0, c .before .before .before .before .before .before .before .loop .inv .1 .1, c .before .before .before .before .before .before .before .before .before .before .before .before .before .pre .1 .1 .1 .0, c .before .before .before .before .before .before .before .before .before .before .before .before .before .pre .1 .1 .1 .1, c .before .before .before .before .before .before .before .before .before .before .before .before .before .good .1 .1 .0 .1, c .before .before .before .before .before .before .before .before .before .before .before .before .before .good .1 .1 .1 .1 .0 .1, c .before .before .before .before .before .before .before .before .before .before .before .before .before .good .1 .1 .1 .1 .1 .0 .1, c .before .before .block-len .ensures .2)
+mul-block-3 c = omega (arith, c .before .before .block-len .ensures .2, c .before .before .before .before .before .before .loop-test .taken, c .before .before .before .before .before .before .before .loop .inv .1, c .before .before .before .before .before .before .before .before .before .before .before .before .before .before .pre .1 .0)
 
 sub-block-3 : tie.Need-sub-block-3 Inv-loop μ-loop
-sub-block-3 c = omega (arith, c .before .before .before .before .before .before .loop-test .taken, c .before .before .before .before .before .before .before .loop .inv .1 .0, c .before .before .before .before .before .before .before .loop .inv .1 .1, c .before .before .before .before .before .before .before .before .before .before .before .before .before .pre .1 .1 .1 .0, c .before .before .before .before .before .before .before .before .before .before .before .before .before .pre .1 .1 .1 .1, c .before .before .before .before .before .before .before .before .before .before .before .before .before .good .1 .1 .0 .1, c .before .before .before .before .before .before .before .before .before .before .before .before .before .good .1 .1 .1 .1 .0 .1, c .before .before .before .before .before .before .before .before .before .before .before .before .before .good .1 .1 .1 .1 .1 .0 .1, c .before .before .block-len .ensures .2)
+sub-block-3 c = omega (arith, c .before .before .block-len .ensures .2, c .before .before .before .before .before .before .loop-test .taken, c .before .before .before .before .before .before .before .loop .inv .1, c .before .before .before .before .before .before .before .before .before .before .before .before .before .before .pre .1 .0)
 
 part-block-start-3 : tie.Need-part-block-start-3 Inv-loop μ-loop
-part-block-start-3 c = omega (arith, c .before .before .before .before .before .before .loop-test .taken, c .before .before .before .before .before .before .before .loop .inv .1 .0, c .before .before .before .before .before .before .before .loop .inv .1 .1, c .before .before .before .before .before .before .before .before .before .before .before .before .before .pre .1 .1 .1 .0, c .before .before .before .before .before .before .before .before .before .before .before .before .before .pre .1 .1 .1 .1, c .before .before .before .before .before .before .before .before .before .before .before .before .before .good .1 .1 .0 .1, c .before .before .before .before .before .before .before .before .before .before .before .before .before .good .1 .1 .1 .1 .0 .1, c .before .before .before .before .before .before .before .before .before .before .before .before .before .good .1 .1 .1 .1 .1 .0 .1, c .before .before .block-len .ensures .2)
+part-block-start-3 c = omega (arith, c .before .before .block-len .ensures .2, c .before .before .before .before .before .before .loop-test .taken, c .before .before .before .before .before .before .before .loop .inv .1, c .before .before .before .before .before .before .before .before .before .before .before .before .before .before .pre .1 .0)
 
 part-block-end-3 : tie.Need-part-block-end-3 Inv-loop μ-loop
-part-block-end-3 c = omega (arith, c .before .before .before .before .before .before .loop-test .taken, c .before .before .before .before .before .before .before .loop .inv .1 .0, c .before .before .before .before .before .before .before .loop .inv .1 .1, c .before .before .before .before .before .before .before .before .before .before .before .before .before .pre .1 .1 .1 .0, c .before .before .before .before .before .before .before .before .before .before .before .before .before .pre .1 .1 .1 .1, c .before .before .before .before .before .before .before .before .before .before .before .before .before .good .1 .1 .0 .1, c .before .before .before .before .before .before .before .before .before .before .before .before .before .good .1 .1 .1 .1 .0 .1, c .before .before .before .before .before .before .before .before .before .before .before .before .before .good .1 .1 .1 .1 .1 .0 .1, c .before .before .block-len .ensures .2)
+part-block-end-3 c = omega (arith, c .before .before .block-len .ensures .2, c .before .before .before .before .before .before .loop-test .taken, c .before .before .before .before .before .before .before .loop .inv .1, c .before .before .before .before .before .before .before .before .before .before .before .before .before .before .pre .1 .0)
 
 block-requires : tie.Need-block-requires Inv-loop μ-loop
-block-requires c κs = let s = c .before .before .before .before .before .before .before .before .before .before .before .before .before .before .before .before in
+block-requires c κs =
+    let s = c .before .before .before .before .before .before .before .before .before .before .before .before .before .before .before .before .before in
+    let r = c .before .before .before .before .before .before .before .before .before .before .before .cd in
     let l = c .before .before .before .before .before .before .before .before .before .before .loop in
     let q = c .before .before .before .before .before .before .tuned .ensures in
     let m = c .before .before .before .before .before .block-len .ensures in
     let k = c .before .before .before .before .block-arg .given .2 in
     let h = c .before .before .before .before .before .before .before .before .before .loop-test .taken in (
-      s .pre .0,
+      rw (r .ensures) usable-44100,
       (
         l .inv .0 .runs,
         (
@@ -96,7 +113,7 @@ block-requires c κs = let s = c .before .before .before .before .before .before
             record {
               some = omega (arith, k, m .0);
               few = let f = rw q at (m .1) in omega (arith, k, f);
-              before = omega (arith, k, m .2, l .inv .0 .place, s .pre .1 .1 .0, h);
+              before = omega (arith, k, m .2, l .inv .0 .place, s .pre .1 .0, h);
             },
             (omega (arith, k, m .3), omega (arith, k, c .before .before .before .block-arg2 .given .2), omega (arith, k, c .before .before .block-arg3 .given .2)),
           ),
@@ -108,21 +125,25 @@ loop-less : tie.Need-loop-less Inv-loop μ-loop
 loop-less c = let m = c .before .before .before .before .before .before .before .before .before .before .before .before .before .before .block-len .ensures in omega (arith, c .before .before .before .before .before .before .before .before .before .before .before .before .before .before .before .before .before .before .loop-test .taken, m .0, m .2)
 
 loop-again : tie.Need-loop-again Inv-loop μ-loop
-loop-again c = let s = c .before .before .before .before .before .before .before .before .before .before .before .before .before .before .before .before .before .before .before .before .before .before .before .before .before in
+loop-again c =
+    let s = c .before .before .before .before .before .before .before .before .before .before .before .before .before .before .before .before .before .before .before .before .before .before .before .before .before .before in
+    let r = c .before .before .before .before .before .before .before .before .before .before .before .before .before .before .before .before .before .before .before .before .cd in
     let l = c .before .before .before .before .before .before .before .before .before .before .before .before .before .before .before .before .before .before .before .loop in
     let k = c .before .before .before .before .before .before .before .before .block in
     let m = c .before .before .before .before .before .before .before .before .before .before .before .before .before .before .block-len .ensures .2 in
-    let h = c .before .before .before .before .before .before .before .before .before .before .before .before .before .before .before .before .before .before .loop-test .taken in (
-      go-turn (s .args .rate) (s .pre .0) (s .args .drums) (state (s .args .strip) (s .args .store .now) (s .args .counts .now)) (s .args .samples .now) (state (l .strip) (l .store) (l .counts)) (l .frames) (l .gains) (l .i) _ _ (l .inv .0)
+    let h = c .before .before .before .before .before .before .before .before .before .before .before .before .before .before .before .before .before .before .loop-test .taken in
+    let u : RateUsable (r .result) = rw (r .ensures) usable-44100 in
+    (
+      go-turn (r .result) u (s .args .drums) (state (s .args .strip) (s .args .store .now) (s .args .counts .now)) (s .args .samples .now) (state (l .strip) (l .store) (l .counts)) (l .frames) (l .gains) (l .i) _ _ (l .inv .0)
           (omega arith) (omega (arith, m, h)) (k .ensures),
       (c .before .before .before .before .before .before .before .frames .given .1 ∙ l .inv .1 .0, c .before .before .before .before .before .gains .given .1 ∙ l .inv .1 .1, k .kept .1 .1 .1 .1 .1 .1 .1 .0 ∙ l .inv .1 .2, k .kept .1 .1 .1 .1 .1 .1 .1 .1 .0 ∙ l .inv .1 .3),
     )
 
 same-length : tie.Need-same-length Inv-loop μ-loop
-same-length c = c .before .loop .inv .1 .0
+same-length c = c .before .loop .inv .1 .0 ∙ sym (c .before .before .before .before .before .before .before .before .pre .1 .1 .0)
 
 same-length-2 : tie.Need-same-length-2 Inv-loop μ-loop
-same-length-2 c = c .before .loop .inv .1 .1
+same-length-2 c = c .before .loop .inv .1 .1 ∙ sym (c .before .before .before .before .before .before .before .before .pre .1 .1 .1)
 
 same-length-3 : tie.Need-same-length-3 Inv-loop μ-loop
 same-length-3 c = c .before .loop .inv .1 .2
@@ -131,9 +152,12 @@ same-length-4 : tie.Need-same-length-4 Inv-loop μ-loop
 same-length-4 c = c .before .loop .inv .1 .3
 
 returns : tie.Need-returns Inv-loop μ-loop
-returns c = let s = c .before .before .before .before .before .before .before in
+returns c =
+    let s = c .before .before .before .before .before .before .before .before in
+    let r = c .before .before .cd in
     let l = c .before .loop in
-    go-done (s .args .rate) (s .pre .0) (s .args .drums) (state (s .args .strip) (s .args .store .now) (s .args .counts .now)) (s .args .samples .now) (state (l .strip) (l .store) (l .counts)) (l .frames) (l .gains) (l .i) (l .inv .0) (c .loop-test .left)
+    let u : RateUsable (r .result) = rw (r .ensures) usable-44100 in
+    rw (← r .ensures) (go-done (r .result) u (s .args .drums) (state (s .args .strip) (s .args .store .now) (s .args .counts .now)) (s .args .samples .now) (state (l .strip) (l .store) (l .counts)) (l .frames) (l .gains) (l .i) (l .inv .0) (c .loop-test .left))
 
 pub go-spec : {M : Type 1} → statement M
 go-spec =
@@ -141,6 +165,7 @@ go-spec =
     (tie.spec
     Inv-loop
     μ-loop
+    cd-requires
     loop-holds
     tuned-requires
     sub-block-len

@@ -1,81 +1,92 @@
 -- `master::needs_in` meets its contract. Assumes nothing.
-use mathlib.Core.Path.{_≡_, sym, ap, _∙_}
-use mathlib.Core.Bool.{true, false}
-use Prim.Native.Nat.{ℕ, _+_, _-_, _%_, _≤_}
+use mathlib.Core.Path.{sym, _∙_}
+use Prim.Native.Nat.{_+_, _-_}
 use native.Mathlib.Omega.{arith}
-use lib.ListN.{getD}
-use lib.Ieee.{nan}
+use lib.Seq.{length-take-le}
 use borrow.Author.Needs.{needs}
-use Rattle.master.specs.WellFormed.{inUnit, needsIn}
-use Rattle.master.proofs.Checking.{every-none, every-more, every-fails, every-all}
+use Rattle.stage.proofs.Answered.{passes, fails}
+use Rattle.master.proofs.Checking.{needs-low, needs-around}
 use Rattle.master.proofs.needs_in.Statement.{statement}
 use Rattle.master.proofs.needs_in.Tie as tie
 
-abbrev Inv-loop : tie.InvT-loop
-Inv-loop samples places head len k₀ k = (k ≤ len) × (needsIn samples places head k ≡ true)
+add-end : tie.Need-add-end
+add-end c = search needs
 
-abbrev μ-loop : tie.MeasureT-loop
-μ-loop samples places head len k₀ k = len - k
+mul-all-in-range : tie.Need-mul-all-in-range
+mul-all-in-range c = search needs
 
-loop-holds : tie.Need-loop-holds Inv-loop μ-loop
-loop-holds c = (omega arith, every-none _)
+sub-all-in-range : tie.Need-sub-all-in-range
+sub-all-in-range c = search needs
 
-add-wrapped : tie.Need-add-wrapped Inv-loop μ-loop
-add-wrapped c = search needs
+part-all-in-range-start : tie.Need-part-all-in-range-start
+part-all-in-range-start c = search needs
 
-wrapped-requires : tie.Need-wrapped-requires Inv-loop μ-loop
-wrapped-requires c κs = search needs
+part-all-in-range-end : tie.Need-part-all-in-range-end
+part-all-in-range-end c = search needs
 
-mul-in-unit : tie.Need-mul-in-unit Inv-loop μ-loop
-mul-in-unit c = search needs
+all-in-range-requires : tie.Need-all-in-range-requires
+all-in-range-requires c κs = search needs
 
-shared-slice-read-in-unit : tie.Need-shared-slice-read-in-unit Inv-loop μ-loop
-shared-slice-read-in-unit c = search needs
-
-in-unit-requires : tie.Need-in-unit-requires Inv-loop μ-loop
-in-unit-requires c κs = search needs
-
-add-k : tie.Need-add-k Inv-loop μ-loop
-add-k c = search needs
-
-loop-less : tie.Need-loop-less Inv-loop μ-loop
-loop-less c = search needs
-
-loop-again : tie.Need-loop-again Inv-loop μ-loop
-loop-again c =
-    let l = c .before .before .before .before .before in
-    let s = l .before .before in
-    let at = c .before .before .before .wrapped .ensures .0 in
-    let t : inUnit (getD (s .args .samples .now) ((s .args .head + l .loop .k) % s .args .places) nan) ≡ true =
-    ap (λ (i : ℕ). inUnit (getD (s .args .samples .now) i nan)) (sym at) ∙ sym (c .before .in-unit .ensures) ∙ c .if1 .taken in
-    (omega arith, every-more _ (l .loop .k) (l .loop .inv .1) t)
-
-returns : tie.Need-returns Inv-loop μ-loop
+returns : tie.Need-returns
 returns c =
-    let l = c .before .before .before .before .before in
-    let s = l .before .before in
-    let at = c .before .before .before .wrapped .ensures .0 in
-    let t : inUnit (getD (s .args .samples .now) ((s .args .head + l .loop .k) % s .args .places) nan) ≡ false =
-    ap (λ (i : ℕ). inUnit (getD (s .args .samples .now) i nan)) (sym at) ∙ sym (c .before .in-unit .ensures) ∙ c .if1 .left in
-    every-fails _ _ (l .loop .k) (c .before .before .before .before .loop-test .taken) t
+    let s = c .before .before .before .before in
+    c .all-in-range .ensures ∙ needs-low (s .args .samples .now) (s .args .places) (s .args .head) (s .args .len) (s .pre .0 .0) (s .pre .1 .0) (c .before .before .if1 .taken)
 
-returns-2 : tie.Need-returns-2 Inv-loop μ-loop
-returns-2 c = every-all _ _ (c .before .loop .k) (c .before .loop .inv .0) (c .loop-test .left) (c .before .loop .inv .1)
+sub-around : tie.Need-sub-around
+sub-around c = search needs
+
+mul-all-in-range-2 : tie.Need-mul-all-in-range-2
+mul-all-in-range-2 c = search needs
+
+sub-all-in-range-2 : tie.Need-sub-all-in-range-2
+sub-all-in-range-2 c = search needs
+
+part-all-in-range-start-2 : tie.Need-part-all-in-range-start-2
+part-all-in-range-start-2 c = search needs
+
+part-all-in-range-end-2 : tie.Need-part-all-in-range-end-2
+part-all-in-range-end-2 c = search needs
+
+all-in-range-requires-2 : tie.Need-all-in-range-requires-2
+all-in-range-requires-2 c κs = search needs
+
+returns-2 : tie.Need-returns-2
+returns-2 c =
+    let s = c .before .before .before .before .before in
+    sym (needs-around (s .args .samples .now) (s .args .places) (s .args .head) (s .args .len) (s .pre .0 .0) (s .pre .1 .0) (c .before .before .before .if1 .left) (s .pre .1 .1) ∙ rw (fails (c .before .all-in-range2 .ensures) (c .if2 .taken)))
+
+slice-aggregate-all-in-range : tie.Need-slice-aggregate-all-in-range
+slice-aggregate-all-in-range c =
+    let s = c .before .before .before .before .before .before in
+    sym (length-take-le (s .args .head + s .args .len - s .args .places) (s .args .samples .now) (omega (arith, s .pre .0, s .pre .1)))
+
+all-in-range-requires-3 : tie.Need-all-in-range-requires-3
+all-in-range-requires-3 c κs = search needs
+
+returns-3 : tie.Need-returns-3
+returns-3 c =
+    let s = c .before .before .before .before .before .before .before in
+    c .all-in-range3 .ensures
+    ∙ sym (needs-around (s .args .samples .now) (s .args .places) (s .args .head) (s .args .len) (s .pre .0 .0) (s .pre .1 .0) (c .before .before .before .before .before .if1 .left) (s .pre .1 .1) ∙ rw (passes (c .before .before .before .all-in-range2 .ensures) (c .before .before .if2 .left)))
 
 pub needs-in-spec : {M : Type 1} → statement M
 needs-in-spec =
     tie.close
     (tie.spec
-    Inv-loop
-    μ-loop
-    loop-holds
-    add-wrapped
-    wrapped-requires
-    mul-in-unit
-    shared-slice-read-in-unit
-    in-unit-requires
-    add-k
-    loop-less
-    loop-again
+    add-end
+    mul-all-in-range
+    sub-all-in-range
+    part-all-in-range-start
+    part-all-in-range-end
+    all-in-range-requires
     returns
-    returns-2)
+    sub-around
+    mul-all-in-range-2
+    sub-all-in-range-2
+    part-all-in-range-start-2
+    part-all-in-range-end-2
+    all-in-range-requires-2
+    returns-2
+    slice-aggregate-all-in-range
+    all-in-range-requires-3
+    returns-3)

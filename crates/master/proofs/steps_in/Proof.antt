@@ -1,32 +1,37 @@
 -- `master::steps_in` meets its contract. Assumes nothing.
-use mathlib.Core.Path.{_≡_}
-use mathlib.Core.Bool.{true}
-use Prim.Native.Nat.{_≤_, _-_}
+use mathlib.Core.Path.{_≡_, sym}
+use Prim.Native.Nat.{_≤_, _-_, _*_}
 use native.Mathlib.Omega.{arith}
+use lib.Dec.{eqb}
 use borrow.Author.Needs.{needs}
-use borrow.Author.Tests.{le-leb, lt-leb}
 use Rattle.master.specs.WellFormed.{stepsIn}
-use Rattle.master.proofs.Checking.{every-none, every-more, every-fails, every-all}
+use Rattle.master.proofs.Checking.{every-none, steps-more, steps-all}
 use Rattle.master.proofs.steps_in.Statement.{statement}
 use Rattle.master.proofs.steps_in.Tie as tie
 
 abbrev Inv-loop : tie.InvT-loop
-Inv-loop counts from count k₀ k = (k ≤ count) × (stepsIn counts from k ≡ true)
+Inv-loop counts from count over₀ k₀ over k = (k ≤ count) × (over ≤ k * 16777216) × (eqb over 0 ≡ stepsIn counts from k)
 
 abbrev μ-loop : tie.MeasureT-loop
-μ-loop counts from count k₀ k = count - k
+μ-loop counts from count over₀ k₀ over k = count - k
 
 loop-holds : tie.Need-loop-holds Inv-loop μ-loop
-loop-holds c = (omega arith, every-none _)
+loop-holds c = (omega arith, omega arith, sym (every-none _))
 
-add-if1 : tie.Need-add-if1 Inv-loop μ-loop
-add-if1 c = search needs
+add-above : tie.Need-add-above Inv-loop μ-loop
+add-above c = search needs
 
-mul-if1 : tie.Need-mul-if1 Inv-loop μ-loop
-mul-if1 c = search needs
+mul-above : tie.Need-mul-above Inv-loop μ-loop
+mul-above c = search needs
 
-shared-slice-read-if1 : tie.Need-shared-slice-read-if1 Inv-loop μ-loop
-shared-slice-read-if1 c = search needs
+shared-slice-read-above : tie.Need-shared-slice-read-above Inv-loop μ-loop
+shared-slice-read-above c = search needs
+
+above-requires : tie.Need-above-requires Inv-loop μ-loop
+above-requires c κs = search needs
+
+add-over : tie.Need-add-over Inv-loop μ-loop
+add-over c = search needs
 
 add-k : tie.Need-add-k Inv-loop μ-loop
 add-k c = search needs
@@ -35,13 +40,16 @@ loop-less : tie.Need-loop-less Inv-loop μ-loop
 loop-less c = search needs
 
 loop-again : tie.Need-loop-again Inv-loop μ-loop
-loop-again c = let l = c .before .before .before in (omega arith, every-more _ (l .loop .k) (l .loop .inv .1) (le-leb _ _ (c .if1 .taken)))
+loop-again c =
+    let l = c .before .before .before .loop in
+    let s = c .before .before .before .before .before .args in
+    (omega arith, omega arith, steps-more (s .counts .now) (s .from) (l .k) (l .over) _ (l .inv .2) (c .above .ensures .0))
 
 returns : tie.Need-returns Inv-loop μ-loop
-returns c = let l = c .before .before .before in every-fails _ _ (l .loop .k) (c .before .before .loop-test .taken) (lt-leb _ _ (c .if1 .left))
-
-returns-2 : tie.Need-returns-2 Inv-loop μ-loop
-returns-2 c = every-all _ _ (c .before .loop .k) (c .before .loop .inv .0) (c .loop-test .left) (c .before .loop .inv .1)
+returns c =
+    let l = c .before .loop in
+    let s = c .before .before .before .args in
+    steps-all (s .counts .now) (s .from) (s .count) (l .k) (l .over) (l .inv .0) (c .loop-test .left) (l .inv .2)
 
 pub steps-in-spec : {M : Type 1} → statement M
 steps-in-spec =
@@ -50,11 +58,12 @@ steps-in-spec =
     Inv-loop
     μ-loop
     loop-holds
-    add-if1
-    mul-if1
-    shared-slice-read-if1
+    add-above
+    mul-above
+    shared-slice-read-above
+    above-requires
+    add-over
     add-k
     loop-less
     loop-again
-    returns
-    returns-2)
+    returns)

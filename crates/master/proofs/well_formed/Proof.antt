@@ -27,14 +27,14 @@ returns-2 c =
     let k = ceilingOn (s .args .c) (s .args .samples .now) (s .args .counts .now) in
     tests-len (s .args .rate) k (c .before .if1 .left) (c .if2 .taken)
 
-in-unit-requires : tie.Need-in-unit-requires
-in-unit-requires c κs = search needs
+in-range-requires : tie.Need-in-range-requires
+in-range-requires c κs = search needs
 
 returns-3 : tie.Need-returns-3
 returns-3 c =
     let s = c .before .before .before .before .before .before .before .before in
     let k = ceilingOn (s .args .c) (s .args .samples .now) (s .args .counts .now) in
-    tests-released (s .args .rate) k (c .before .before .before .if1 .left) (c .before .before .if2 .left) (sym (c .before .in-unit .ensures) ∙ not-true _ (c .if3 .taken))
+    tests-released (s .args .rate) k (c .before .before .before .if1 .left) (c .before .before .if2 .left) (sym (c .before .in-range .ensures) ∙ not-true _ (c .if3 .taken))
 
 needs-in-requires : tie.Need-needs-in-requires
 needs-in-requires c κs = search needs
@@ -43,7 +43,7 @@ returns-4 : tie.Need-returns-4
 returns-4 c =
     let s = c .before .before .before .before .before .before .before .before .before .before in
     let k = ceilingOn (s .args .c) (s .args .samples .now) (s .args .counts .now) in
-    tests-needs (s .args .rate) k (c .before .before .before .before .before .if1 .left) (c .before .before .before .before .if2 .left) (sym (c .before .before .before .in-unit .ensures) ∙ not-false _ (c .before .before .if3 .left)) (sym (c .before .needs-in .ensures) ∙ not-true _ (c .if4 .taken))
+    tests-needs (s .args .rate) k (c .before .before .before .before .before .if1 .left) (c .before .before .before .before .if2 .left) (sym (c .before .before .before .in-range .ensures) ∙ not-false _ (c .before .before .if3 .left)) (sym (c .before .needs-in .ensures) ∙ not-true _ (c .if4 .taken))
 
 steps-in-requires : tie.Need-steps-in-requires
 steps-in-requires c κs = search needs
@@ -52,7 +52,7 @@ returns-5 : tie.Need-returns-5
 returns-5 c =
     let s = c .before .before .before .before .before .before .before .before .before .before .before .before in
     let k = ceilingOn (s .args .c) (s .args .samples .now) (s .args .counts .now) in
-    tests-steps (s .args .rate) k (c .before .before .before .before .before .before .before .if1 .left) (c .before .before .before .before .before .before .if2 .left) (sym (c .before .before .before .before .before .in-unit .ensures) ∙ not-false _ (c .before .before .before .before .if3 .left)) (sym (c .before .before .before .needs-in .ensures) ∙ not-false _ (c .before .before .if4 .left)) (sym (c .before .steps-in .ensures) ∙ not-true _ (c .if5 .taken))
+    tests-steps (s .args .rate) k (c .before .before .before .before .before .before .before .if1 .left) (c .before .before .before .before .before .before .if2 .left) (sym (c .before .before .before .before .before .in-range .ensures) ∙ not-false _ (c .before .before .before .before .if3 .left)) (sym (c .before .before .before .needs-in .ensures) ∙ not-false _ (c .before .before .if4 .left)) (sym (c .before .steps-in .ensures) ∙ not-true _ (c .if5 .taken))
 
 total-requires : tie.Need-total-requires
 total-requires c κs =
@@ -63,7 +63,7 @@ returns-6 : tie.Need-returns-6
 returns-6 c =
     let s = c .before .before .before .before .before .before .before .before .before .before .before .before .before .before in
     let k = ceilingOn (s .args .c) (s .args .samples .now) (s .args .counts .now) in
-    tests-count (s .args .rate) k (c .before .before .before .before .before .before .before .before .before .if1 .left) (c .before .before .before .before .before .before .before .before .if2 .left) (sym (c .before .before .before .before .before .before .before .in-unit .ensures) ∙ not-false _ (c .before .before .before .before .before .before .if3 .left)) (sym (c .before .before .before .before .before .needs-in .ensures) ∙ not-false _ (c .before .before .before .before .if4 .left)) (c .before .total .result) (sym (c .before .before .before .steps-in .ensures) ∙ not-false _ (c .before .before .if5 .left)) (c .before .total .ensures)
+    tests-count (s .args .rate) k (c .before .before .before .before .before .before .before .before .before .if1 .left) (c .before .before .before .before .before .before .before .before .if2 .left) (sym (c .before .before .before .before .before .before .before .in-range .ensures) ∙ not-false _ (c .before .before .before .before .before .before .if3 .left)) (sym (c .before .before .before .before .before .needs-in .ensures) ∙ not-false _ (c .before .before .before .before .if4 .left)) (c .before .total .result) (sym (c .before .before .before .steps-in .ensures) ∙ not-false _ (c .before .before .if5 .left)) (c .before .total .ensures)
 
 pub well-formed-spec : {M : Type 1} → statement M
 well-formed-spec =
@@ -73,7 +73,7 @@ well-formed-spec =
     add-steps
     returns
     returns-2
-    in-unit-requires
+    in-range-requires
     returns-3
     needs-in-requires
     returns-4

@@ -1,17 +1,14 @@
 use mathlib.Core.Path.{refl}
 use borrow.Author.Needs.{needs}
-use Rattle.rate.specs.Rate.{RateUsable}
+use Rattle.rate.specs.Rate.{rateOf}
 use Rattle.rate.proofs.Rates.{usable-44100}
 use Rattle.strip.specs.Calls.{state}
 use Rattle.part.proofs.Running.{runs, run-first, run-own, run-end, run-outputs, run-done}
 use Rattle.part.proofs.run.Statement.{statement}
 use Rattle.part.proofs.run.Tie as tie
 
-cd-requires : tie.Need-cd-requires
-cd-requires c κs = search needs
-
 first-requires : tie.Need-first-requires
-first-requires c κs = rw (c .before .before .cd .ensures) usable-44100
+first-requires c κs = search needs
 
 same-length : tie.Need-same-length
 same-length c = search needs
@@ -21,9 +18,9 @@ same-length-2 c = search needs
 
 returns : tie.Need-returns
 returns c =
-    let s = c .before .before .before .before .before .before .before .before .before .before .args in
+    let s = c .before .before .before .before .before .before .before .before .before .args in
     let st = state (s .strip) (s .store .now) (s .counts .now) in
-    rw (← c .before .before .before .before .cd .ensures) (run-first _ st _ (c .before .first .ensures) (s .samples .now) (s .drums) (s .frames .now) (s .gains .now) (c .if1 .taken))
+    run-first (rateOf 44100) st _ (c .before .first .ensures) (s .samples .now) (s .drums) (s .frames .now) (s .gains .now) (c .if1 .taken)
 
 run-refusal-requires : tie.Need-run-refusal-requires
 run-refusal-requires c κs = search needs
@@ -36,20 +33,19 @@ same-length-4 c = search needs
 
 returns-2 : tie.Need-returns-2
 returns-2 c =
-    let s = c .before .before .before .before .before .before .before .before .before .before .before .before .args in
+    let s = c .before .before .before .before .before .before .before .before .before .before .before .args in
     let st = state (s .strip) (s .store .now) (s .counts .now) in
-    rw (← c .before .before .before .before .before .before .cd .ensures) (run-own _ st _ (c .before .before .before .first .ensures) (s .samples .now) (s .drums) (s .frames .now) (s .gains .now) (c .before .before .if1 .left) _ (c .before .run-refusal .ensures) (c .if2 .taken))
+    run-own (rateOf 44100) st _ (c .before .before .before .first .ensures) (s .samples .now) (s .drums) (s .frames .now) (s .gains .now) (c .before .before .if1 .left) _ (c .before .run-refusal .ensures) (c .if2 .taken)
 
 go-requires : tie.Need-go-requires
 go-requires c κs =
-    let s = c .before .before .before .before .before .before .before .before .before .before .before .before .before .before .before .before .args in
+    let s = c .before .before .before .before .before .before .before .before .before .before .before .before .before .before .before .args in
     let st = state (s .strip) (s .store .now) (s .counts .now) in
     let e = c .before .before .before .before .before .before .before .first .ensures in
     let z = c .before .before .before .before .before .before .if1 .left in
     let f = c .before .before .before .before .before .run-refusal .ensures in
     let y = c .before .before .before .before .if2 .left in
-    let u : RateUsable (c .before .before .before .before .before .before .before .before .before .before .cd .result) = rw (c .before .before .before .before .before .before .before .before .before .before .cd .ensures) usable-44100 in
-    (u, (runs _ st _ e u z, (run-end _ st _ e (s .samples .now) (s .drums) (s .frames .now) (s .gains .now) z _ f y, run-outputs _ st _ e (s .samples .now) (s .drums) (s .frames .now) (s .gains .now) z _ f y)))
+    (runs (rateOf 44100) st _ e usable-44100 z, (run-end (rateOf 44100) st _ e (s .samples .now) (s .drums) (s .frames .now) (s .gains .now) z _ f y, run-outputs (rateOf 44100) st _ e (s .samples .now) (s .drums) (s .frames .now) (s .gains .now) z _ f y))
 
 same-length-5 : tie.Need-same-length-5
 same-length-5 c = search needs
@@ -65,16 +61,14 @@ same-length-8 c = search needs
 
 returns-3 : tie.Need-returns-3
 returns-3 c =
-    let s = c .before .before .before .before .before .before .before .before .before .before .before .before .before .before .before .before .before .before .before .before .before .before .before .before .before .args in
+    let s = c .before .before .before .before .before .before .before .before .before .before .before .before .before .before .before .before .before .before .before .before .before .before .before .before .args in
     let st = state (s .strip) (s .store .now) (s .counts .now) in
-    rw (← c .before .before .before .before .before .before .before .before .before .before .before .before .before .before .before .before .before .before .before .cd .ensures)
-    (run-done _ st _ (c .before .before .before .before .before .before .before .before .before .before .before .before .before .before .before .before .first .ensures) (s .samples .now) (s .drums) (s .frames .now) (s .gains .now) (c .before .before .before .before .before .before .before .before .before .before .before .before .before .before .before .if1 .left) _ (c .before .before .before .before .before .before .before .before .before .before .before .before .before .before .run-refusal .ensures) (c .before .before .before .before .before .before .before .before .before .before .before .before .before .if2 .left) _ _ _ _ _ _ _ _ _ _ _ (c .before .before .before .before .before .before .before .before .go .ensures) refl refl refl refl refl refl)
+    run-done (rateOf 44100) st _ (c .before .before .before .before .before .before .before .before .before .before .before .before .before .before .before .before .first .ensures) (s .samples .now) (s .drums) (s .frames .now) (s .gains .now) (c .before .before .before .before .before .before .before .before .before .before .before .before .before .before .before .if1 .left) _ (c .before .before .before .before .before .before .before .before .before .before .before .before .before .before .run-refusal .ensures) (c .before .before .before .before .before .before .before .before .before .before .before .before .before .if2 .left) _ _ _ _ _ _ _ _ _ _ _ (c .before .before .before .before .before .before .before .before .go .ensures) refl refl refl refl refl refl
 
 pub run-spec : {M : Type 1} → statement M
 run-spec =
     tie.close
     (tie.spec
-    cd-requires
     first-requires
     same-length
     same-length-2

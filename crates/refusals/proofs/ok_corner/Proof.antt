@@ -1,4 +1,5 @@
-use Rattle.strip.specs.Refusals.{inRange, okCorner}
+use Rattle.ranges.specs.Ranges.{inRange}
+use Rattle.strip.specs.Refusals.{okCorner}
 use mathlib.Core.Path.{ap, _∙_}
 use lib.Ieee.{ofBits, ofInt}
 use Rattle.casts.specs.Arithmetic.{whole}

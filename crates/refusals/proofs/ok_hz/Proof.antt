@@ -1,4 +1,4 @@
-use Rattle.strip.specs.Refusals.{inRange}
+use Rattle.ranges.specs.Ranges.{inRange}
 use mathlib.Core.Path.{ap, _∙_}
 use lib.Ieee.{ofBits, ofInt}
 use Rattle.casts.specs.Arithmetic.{whole, nought}

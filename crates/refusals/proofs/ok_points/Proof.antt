@@ -20,13 +20,13 @@ returns-3 : tie.Need-returns-3
 unfolding okPoints
 returns-3 c = rw (le-leb _ _ (c .before .before .before .if1 .left), eq-eqb _ _ (c .before .before .if2 .left), fails (c .before .rising .ensures) (c .if3 .taken))
 
-all-unit-requires : tie.Need-all-unit-requires
-all-unit-requires c κs = search needs
+all-in-range-requires : tie.Need-all-in-range-requires
+all-in-range-requires c κs = search needs
 
 returns-4 : tie.Need-returns-4
 unfolding okPoints
-returns-4 c = rw (le-leb _ _ (c .before .before .before .before .if1 .left), eq-eqb _ _ (c .before .before .before .if2 .left), passes (c .before .before .rising .ensures) (c .before .if3 .left)) (c .all-unit .ensures)
+returns-4 c = rw (le-leb _ _ (c .before .before .before .before .if1 .left), eq-eqb _ _ (c .before .before .before .if2 .left), passes (c .before .before .rising .ensures) (c .before .if3 .left)) (c .all-in-range .ensures)
 
 pub ok-points-spec : {M : Type 1} → statement M
 ok-points-spec =
-    tie.close (tie.spec returns returns-2 rising-requires returns-3 all-unit-requires returns-4)
+    tie.close (tie.spec returns returns-2 rising-requires returns-3 all-in-range-requires returns-4)

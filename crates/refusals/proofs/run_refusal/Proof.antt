@@ -19,16 +19,16 @@ returns-2 : tie.Need-returns-2
 unfolding runRefusal
 returns-2 c = rw (passes (c .before .before .before .ok-outputs .ensures) (c .before .before .if1 .left), fails (c .before .ok-end .ensures) (c .if2 .taken))
 
-all-ok-requires : tie.Need-all-ok-requires
-all-ok-requires c κs = search needs
+ok-samples-requires : tie.Need-ok-samples-requires
+ok-samples-requires c κs = search needs
 
 returns-3 : tie.Need-returns-3
 unfolding runRefusal
-returns-3 c = rw (passes (c .before .before .before .before .before .ok-outputs .ensures) (c .before .before .before .before .if1 .left), passes (c .before .before .before .ok-end .ensures) (c .before .before .if2 .left), sym (c .before .all-ok .ensures) ∙ c .if3 .taken)
+returns-3 c = rw (passes (c .before .before .before .before .before .ok-outputs .ensures) (c .before .before .before .before .if1 .left), passes (c .before .before .before .ok-end .ensures) (c .before .before .if2 .left), sym (c .before .ok-samples .ensures) ∙ c .if3 .taken)
 
 returns-4 : tie.Need-returns-4
 unfolding runRefusal
-returns-4 c = rw (passes (c .before .before .before .before .before .ok-outputs .ensures) (c .before .before .before .before .if1 .left), passes (c .before .before .before .ok-end .ensures) (c .before .before .if2 .left), sym (c .before .all-ok .ensures) ∙ c .if3 .left)
+returns-4 c = rw (passes (c .before .before .before .before .before .ok-outputs .ensures) (c .before .before .before .before .if1 .left), passes (c .before .before .before .ok-end .ensures) (c .before .before .if2 .left), sym (c .before .ok-samples .ensures) ∙ c .if3 .left)
 
 pub run-refusal-spec : {M : Type 1} → statement M
 run-refusal-spec =
@@ -38,6 +38,6 @@ run-refusal-spec =
     returns
     ok-end-requires
     returns-2
-    all-ok-requires
+    ok-samples-requires
     returns-3
     returns-4)

@@ -1,6 +1,6 @@
-use Rattle.strip.specs.Refusals.{inRange}
-use Rattle.refusals.proofs.in_range.Statement.{statement}
-use Rattle.refusals.proofs.in_range.Tie as tie
+use Rattle.ranges.specs.Ranges.{inRange}
+use Rattle.ranges.proofs.in_range.Statement.{statement}
+use Rattle.ranges.proofs.in_range.Tie as tie
 
 returns : tie.Need-returns
 unfolding inRange

@@ -1,8 +1,17 @@
--- A list of positions as document 01 allows it.
+-- Document 01's ranges.
 use Prim.Native.Nat.{ℕ}
 use mathlib.Core.Bool.{Bool, true, _&&_}
 use mathlib.Core.List.{List, [], _∷_}
 use lib.Dec.{leb}
+use lib.Ieee.{Float, le}
+
+-- "(ends allowed)"; a NaN is in no range
+unfoldable pub inRange : Float → Float → Float → Bool
+inRange lo hi x = le lo x && le x hi
+
+unfoldable pub allInRange : Float → Float → List Float → Bool
+allInRange lo hi [] = true
+allInRange lo hi (x ∷ xs) = inRange lo hi x && allInRange lo hi xs
 
 -- "each list never falling, positions at most 2^32": none below b, nor below the one before it
 unfoldable pub risingFrom : ℕ → List ℕ → Bool
