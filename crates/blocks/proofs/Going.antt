@@ -1,22 +1,21 @@
 -- The loop of a run over blocks: what holds after i samples, and that a block keeps it. Assumes nothing.
 use mathlib.Core.Path.{_≡_, refl, sym, ap, subst, subst⁻¹, _∙_}
 use mathlib.Core.Bool.{Bool, true, false}
-use Prim.Native.Nat.{ℕ, zero, suc, _+_, _-_, _*_, _<_, _≤_}
+use Prim.Native.Nat.{ℕ, zero, suc, _+_, _-_, _*_, _≤_}
 use native.Mathlib.Omega.{arith}
-use mathlib.Core.List.{List, [], _∷_, _++_, map}
+use mathlib.Core.List.{List, [], _∷_, _++_}
 use lib.Dec.{T}
 use lib.ListN.{length, take, drop, length-map, length-append, length-drop}
-use lib.Seq.{take-nil, drop-nil}
 use lib.Ieee.{Float}
-use borrow.Rule.Slice.PartMut.{midOf, putMid}
-use Rattle.stage.specs.Stage.{Step, Stage, ran, outs, identity, flatMap}
+use borrow.Rule.Slice.PartMut.{putMid}
+use Rattle.stage.specs.Stage.{Step, ran, outs, identity, flatMap}
 use Rattle.stage.proofs.Laws.{outs-length}
 use Rattle.stream.specs.declared.Frame.{Frame}
 use Rattle.stage.proofs.Loop.{Wrote, Gone, wrote-start, wrote-done, gone-start, gone-done}
 use Rattle.stage.proofs.Block.{gone-outs, gone-block, wrote-block, flat-take, flat-drop, flat-length}
 use Rattle.rate.specs.declared.Rate.{Rate}
 use Rattle.rate.specs.declared.TapeRate.{TapeRate}
-use Rattle.rate.specs.Rate.{RateUsable, tapeSamples, plateSamples, ceilingSamples, valuesAt, tapeCounts, ceilingCounts, positionsAt}
+use Rattle.rate.specs.Rate.{RateUsable, valuesAt, positionsAt}
 use Rattle.ramp.specs.declared.Ramp.{Ramp}
 use Rattle.sidechain.specs.declared.DuckRate.{DuckRate}
 use Rattle.duck.specs.Cursors.{DuckIn, duckOn, duckStepOn, Within}
@@ -30,11 +29,11 @@ use Rattle.plate.specs.Plate.{PlateIn}
 use Rattle.master.specs.declared.Heard.{Heard}
 use Rattle.master.specs.Kept.{CeilingIn, ceilingStepOn, framesOut, countsOut}
 use Rattle.master.specs.WellFormed.{wellFormed, Sized}
-use Rattle.master.proofs.Ready.{Ready, ready-of, of-ready}
+use Rattle.master.proofs.Ready.{ready-of, of-ready}
 use Rattle.master.proofs.Stays.{ready-next}
 use Rattle.strip.specs.declared.Strip.{Strip}
-use Rattle.strip.specs.Calls.{State, state, tapeIn, plateIn, ceilingIn, listsIn, whole, mixedStepOn, stepOn}
-use Rattle.strip.proofs.Parts.{Long, tape-of, plate-of, ceiling-of, parts-long}
+use Rattle.strip.specs.Calls.{State, tapeIn, plateIn, ceilingIn, listsIn, whole, mixedStepOn, stepOn}
+use Rattle.strip.proofs.Parts.{Long, tape-of, ceiling-of, parts-long}
 use Rattle.strip.proofs.Sizes.{plate-sized, samples-sized}
 use Rattle.strip.proofs.Sizes as sizes
 use Rattle.blocks.specs.Run.{Runs, RanAll, allRan}

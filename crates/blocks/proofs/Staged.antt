@@ -1,7 +1,7 @@
 -- The three stages, each lent its own parts of the stores, one after the other: what they leave in the whole. Assumes nothing.
-use mathlib.Core.Path.{_≡_, refl, sym, ap, subst, subst⁻¹, _∙_}
+use mathlib.Core.Path.{_≡_, refl, sym, ap, subst, _∙_}
 use mathlib.Core.Bool.{Bool}
-use Prim.Native.Nat.{ℕ, _+_, _-_, _*_, _<_, _≤_}
+use Prim.Native.Nat.{ℕ, _+_, _-_, _<_, _≤_}
 use native.Mathlib.Omega.{arith}
 use mathlib.Core.List.{List, [], _∷_, _++_, map, append-assoc}
 use lib.ListN.{length, take, drop, length-append}
@@ -11,9 +11,8 @@ use Rattle.stage.specs.Stage.{Stage, ran, outs}
 use Rattle.stage.proofs.Parts.{mid-at, put-at}
 use Rattle.stream.specs.declared.Frame.{Frame}
 use Rattle.rate.specs.declared.Rate.{Rate}
-use Rattle.rate.specs.Rate.{tapeSamples, plateSamples, ceilingSamples, valuesAt, tapeCounts, ceilingCounts, positionsAt}
+use Rattle.rate.specs.Rate.{tapeSamples, plateSamples, ceilingSamples, valuesAt, ceilingCounts, positionsAt}
 use Rattle.tape.specs.declared.Tape.{Tape}
-use Rattle.tape.specs.Tape.{Lists}
 use Rattle.tape.specs.Kept.{TapeIn, tapeOn, tapeTuned, tunedAt, tapeStepOn}
 use Rattle.tape.proofs.Lasting.{tuned-ran, tuned-outs}
 use Rattle.plate.specs.declared.Plate.{Plate}
@@ -22,7 +21,7 @@ use Rattle.master.specs.declared.Ceiling.{Ceiling}
 use Rattle.master.specs.declared.Heard.{Heard}
 use Rattle.master.specs.Kept.{CeilingIn, ceilingOn, ceilingStepOn, framesIn, framesOut, countsOut}
 use Rattle.strip.specs.declared.Strip.{Strip}
-use Rattle.strip.specs.Calls.{State, state, tapeIn, plateIn, ceilingIn, listsIn, whole, mixedStepOn, stepOn}
+use Rattle.strip.specs.Calls.{State, state, tapeIn, plateIn, ceilingIn, whole, mixedStepOn, stepOn}
 use Rattle.strip.proofs.Parts.{Long, parts-long, is-whole}
 use Rattle.strip.proofs.Chain.{pointsAt, chain-ran, chain-outs}
 use Rattle.blocks.specs.Run.{Piecewise, tunedOf, RanAll, ranAll, allRan}

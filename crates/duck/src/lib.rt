@@ -32,7 +32,7 @@ struct DuckedTwo {
 // The most kicks; their marks stand after them.
 const KICKS: usize = 1024;
 
-// ---- the lists
+// ---- the kicks
 
 impl Duck {
     // Keeps the kicks in the duck's part. The marks' places stay as they are: a kick is marked before its mark is read.

@@ -3,7 +3,7 @@
 ghost use mathlib.Core.Path.{_≡_};
 ghost use mathlib.Core.List.{map};
 ghost use Prim.Native.Nat.{_+_, _<_, _≤_};
-ghost use lib.ListN.{length, getD, set};
+ghost use lib.ListN.{getD, set};
 ghost use Rattle.casts.specs.Arithmetic.{_⊕_, _⊖_, _⊗_, _⊘_, nought, one};
 ghost use Rattle.elementary.specs.Elementary.{TANH, SIN, COS, turn};
 ghost use Rattle.eight.specs.Each.{all, each, each2, listed, heldAt, eightAt, putEight, saturatedOver, groupEnd};

@@ -1,6 +1,6 @@
 -- What run owes where it declines, where it does not, and what its blocks may then rely on. Assumes nothing.
 use mathlib.Core.Path.{_≡_, sym, ap, subst⁻¹, _∙_}
-use mathlib.Core.Bool.{Bool, true}
+use mathlib.Core.Bool.{Bool}
 use Prim.Native.Nat.{ℕ, _+_, _*_, _≤_}
 use native.Mathlib.Omega.{arith}
 use mathlib.Core.List.{List}
@@ -17,7 +17,7 @@ use Rattle.master.specs.WellFormed.{wellFormed}
 use Rattle.strip.specs.declared.Strip.{Strip}
 use Rattle.strip.specs.declared.Outcome.the-variants.{Now, Declined}
 use Rattle.strip.specs.Refusals.{okPoints, okOutputs, runRefusal}
-use Rattle.strip.specs.Calls.{State, state, tapeIn, ceilingIn, listsIn, formed, first, runCall}
+use Rattle.strip.specs.Calls.{State, state, tapeIn, ceilingIn, listsIn, first, runCall}
 use Rattle.strip.proofs.Opening.{passed}
 use Rattle.strip.proofs.Joined.{run-room}
 use Rattle.refusals.specs.Pieces.{stripFormed}

@@ -1,9 +1,8 @@
 -- The lane's numbers at 44,100 and at 48,000 Hz are usable. Assumes nothing.
 use mathlib.Core.Path.{_≡_, refl}
-use Prim.Native.Nat.{ℕ}
 use lib.Dec.{lit<, lit≤}
-use lib.Ieee.{ofBits, add, sub, mul, div, neg, le, lt, ofInt, toUnsigned, toBits}
-use Rattle.delay.specs.Delay.{ringOf, powerFrom, Reach}
+use lib.Ieee.{ofBits, add, mul, div, le, lt, ofInt, toUnsigned}
+use Rattle.delay.specs.Delay.{ringOf, powerFrom}
 use Rattle.rate.specs.Lengths.{ceilOf}
 use Rattle.rate.specs.Tape.{warpOf, wowOf, flutterOf, tapeRate, TapeUsable}
 

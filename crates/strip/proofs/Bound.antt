@@ -1,21 +1,17 @@
 -- The gain bound of every list of samples and latches (specs/Promise.antt, `Bounded`): a corollary of the ceiling's. Assumes nothing.
-use mathlib.Core.Path.{_≡_, refl, sym, ap, subst, _∙_}
-use mathlib.Core.Bool.{Bool}
-use Prim.Native.Nat.{ℕ, suc, _+_, _-_, _*_, _<_, _≤_}
+use mathlib.Core.Path.{_≡_, refl, ap, _∙_}
+use Prim.Native.Nat.{_-_, _<_}
 use native.Mathlib.Omega.{arith}
-use mathlib.Core.List.{List, [], _∷_, _++_, map}
+use mathlib.Core.List.{List, [], _∷_}
 use lib.ListN.{length, getD, List·getD-map}
-use lib.Ieee.{Float}
 use Rattle.casts.specs.Arithmetic.{nought}
-use Rattle.casts.specs.Step.{stepOf}
-use Rattle.stage.specs.Stage.{Step, Stage, outs}
+use Rattle.stage.specs.Stage.{outs}
 use Rattle.stage.proofs.Laws.{outs-length}
-use Rattle.stream.specs.declared.Frame.{Frame}
 use Rattle.rate.specs.declared.Rate.{Rate}
 use Rattle.rate.specs.Rate.{RateUsable}
 use Rattle.tape.specs.Tape.{Lists}
 use Rattle.master.specs.declared.Heard.{Heard}
-use Rattle.master.specs.Ceiling.{CeilingMachine, needOf, silence, ceilingStep, freshMachine}
+use Rattle.master.specs.Ceiling.{ceilingStep, freshMachine}
 use Rattle.master.specs.Kept.{countsOut}
 use Rattle.master.proofs.Delivered.{machine-bound}
 use Rattle.strip.specs.declared.Setup.{Setup}

@@ -1,24 +1,23 @@
 -- Sample by sample over the whole is stage by stage over the parts. Assumes nothing.
-use mathlib.Core.Path.{_≡_, refl, sym, ap, _∙_}
+use mathlib.Core.Path.{_≡_, refl, ap, _∙_}
 use mathlib.Core.Bool.{Bool}
-use Prim.Native.Nat.{ℕ, _+_, _<_, _≤_}
+use Prim.Native.Nat.{ℕ, _+_, _<_}
 use native.Mathlib.Omega.{arith}
-use mathlib.Core.List.{List, [], _∷_, _++_}
-use lib.ListN.{length, take, drop}
+use mathlib.Core.List.{List}
+use lib.ListN.{length, take}
 use lib.Ieee.{Float}
-use Rattle.stage.specs.Stage.{Step, Stage, ran, outs, both}
-use Rattle.stage.proofs.Laws.{ran-both, outs-both, ran-carried, outs-carried, kept}
+use Rattle.stage.specs.Stage.{Stage, ran, outs, both}
+use Rattle.stage.proofs.Laws.{ran-both, outs-both, ran-carried, outs-carried}
 use Rattle.stream.specs.declared.Frame.{Frame}
 use Rattle.rate.specs.declared.Rate.{Rate}
-use Rattle.rate.specs.Rate.{valuesAt, positionsAt}
 use Rattle.tape.specs.Tape.{Lists}
 use Rattle.tape.specs.Kept.{TapeIn, tapeStepOn}
 use Rattle.tape.proofs.Related.{ring-sized, counts-sized}
-use Rattle.plate.specs.Plate.{PlateIn, plateStepOn}
+use Rattle.plate.specs.Plate.{PlateIn}
 use Rattle.master.specs.declared.Heard.{Heard}
 use Rattle.master.specs.Kept.{CeilingIn, ceilingStepOn}
 use Rattle.strip.specs.declared.Strip.{Strip}
-use Rattle.strip.specs.Calls.{State, tapeIn, plateIn, ceilingIn, listsIn, whole, mixedStepOn, stepOn}
+use Rattle.strip.specs.Calls.{State, whole, mixedStepOn, stepOn}
 use Rattle.strip.proofs.Parts.{Long, tape-of, plate-of, ceiling-of, values-of, positions-of}
 use Rattle.strip.proofs.Sizes.{plate-sized, samples-sized}
 use Rattle.strip.proofs.Sizes as sizes

@@ -1,7 +1,7 @@
 -- Demand 3, for every list of calls: what the strip answers is what the one-sample machine answers (specs/Promise.antt, `Joined`, `JoinedAre`). Assumes nothing.
 use mathlib.Core.Path.{_≡_, refl, sym, ap, subst, subst⁻¹, _∙_}
-use mathlib.Core.Bool.{Bool, true, false, cond, _&&_}
-use Prim.Native.Nat.{ℕ, zero, suc, _+_, _*_, _<_, _≤_}
+use mathlib.Core.Bool.{Bool, true, false, cond}
+use Prim.Native.Nat.{ℕ, _+_, _≤_}
 use native.Mathlib.Omega.{arith}
 use mathlib.Core.List.{List, [], _∷_, _++_, map, append-assoc}
 use lib.Dec.{leb, eqb}
@@ -18,9 +18,9 @@ use Rattle.strip.specs.declared.Controls.{Controls}
 use Rattle.strip.specs.declared.Strip.{Strip}
 use Rattle.strip.specs.declared.Opened as opened
 use Rattle.strip.specs.Refusals.{furthest, okUnit, okOutputs, okEnd, okSamples, okControls, runRefusal, latchRefusal, openRefusal}
-use Rattle.strip.specs.Machine.{Machine, Event, sample, latch, fresh, stepped, latched, fed, fedAll, delivers, heardFrom, resting}
-use Rattle.strip.specs.Calls.{State, state, ranOn, heardOn, first, openedState, OpenDone, openCall, runCall, latchCall, restCall}
-use Rattle.strip.specs.Promise.{Call, run, move, ask, Answer, ran, moved, rests, declined, answerTo, after, through, refusal, eventsOf, feeds, accepted, says, expected, Joined, framesIn, countsIn, joinedFrames, joinedCounts, takes, joinedEvents, JoinedAre}
+use Rattle.strip.specs.Machine.{Machine, Event, sample, fresh, stepped, latched, fed, fedAll, delivers, heardFrom}
+use Rattle.strip.specs.Calls.{State, state, openedState, OpenDone, openCall, runCall, latchCall, restCall}
+use Rattle.strip.specs.Promise.{Call, run, move, ask, declined, answerTo, after, through, refusal, eventsOf, feeds, accepted, says, expected, Joined, framesIn, countsIn, joinedFrames, joinedCounts, takes, joinedEvents, JoinedAre}
 use Rattle.strip.proofs.Opening.{both-true, passed, opens, open-stands}
 use Rattle.strip.proofs.Related.{Stands, none-first, run-stands, run-heard, latch-stands, same-rest}
 

@@ -1,19 +1,18 @@
 -- What open leaves stands to the fresh machine. Assumes nothing.
 use mathlib.Core.Path.{_≡_, refl, sym, ap, subst, subst⁻¹, _∙_}
 use mathlib.Core.Bool.{Bool, true, false, cond, _&&_}
-use Prim.Native.Nat.{ℕ, zero, suc, _+_, _-_, _*_, _<_, _≤_}
+use Prim.Native.Nat.{ℕ, suc, _+_, _-_, _≤_}
 use native.Mathlib.Omega.{arith}
-use mathlib.Core.List.{List, [], _∷_, _++_}
-use lib.Dec.{leb, eqb}
+use mathlib.Core.List.{List, _++_}
 use lib.ListN.{length, take, drop, replicate, length-append, length-drop, length-replicate}
 use lib.Seq.{take-at, take-append-seam, length-take-le}
 use lib.Ieee.{Float}
-use borrow.Author.Tests.{leb-true, eqb-true, le-leb}
+use borrow.Author.Tests.{leb-true, eqb-true}
 use Rattle.casts.specs.Arithmetic.{nought}
 use Rattle.ramp.specs.declared.Shape.the-variants.{Linear}
 use Rattle.ramp.specs.Ramp.{held}
 use Rattle.rate.specs.declared.Rate.{Rate}
-use Rattle.rate.specs.Rate.{RateUsable, tapeSamples, plateSamples, ceilingSamples, valuesAt, tapeCounts, ceilingCounts, positionsAt, mostPoints}
+use Rattle.rate.specs.Rate.{RateUsable, tapeSamples, plateSamples, ceilingSamples, valuesAt, tapeCounts, ceilingCounts, positionsAt}
 use Rattle.ranges.specs.Ranges.{risingFrom}
 use Rattle.duck.specs.Cursors.{kicksIn, laid}
 use Rattle.tape.specs.Tape.{Lists, freshTape, freshTapeMachine}
@@ -31,10 +30,10 @@ use Rattle.master.proofs.Refines as refines
 use Rattle.master.proofs.Opening.{fresh-is, fresh-ready, filled-length}
 use Rattle.strip.specs.declared.Setup.{Setup}
 use Rattle.strip.specs.declared.Strip.{Strip}
-use Rattle.strip.specs.Refusals.{furthest, longEnough, okSetup, okPoints, okKicks, okLists, okRamp, openRefusal}
-use Rattle.strip.specs.Machine.{Machine, fresh}
-use Rattle.strip.specs.Calls.{State, state, tapeIn, plateIn, ceilingIn, listsIn, whole, openedStrip, openedState}
-use Rattle.strip.proofs.Parts.{Long, tape-of, plate-of, ceiling-of, values-of, positions-of, parts-long}
+use Rattle.strip.specs.Refusals.{longEnough, okSetup, okPoints, okKicks, okLists, okRamp, openRefusal}
+use Rattle.strip.specs.Machine.{fresh}
+use Rattle.strip.specs.Calls.{State, tapeIn, plateIn, ceilingIn, listsIn, whole, openedStrip, openedState}
+use Rattle.strip.proofs.Parts.{Long, tape-of, plate-of, ceiling-of, values-of, positions-of}
 use Rattle.strip.proofs.Related.{Stands, listed}
 
 -- ---- what passing refusals 1, 2 and 3 tells

@@ -1,13 +1,13 @@
 -- How a machine and a strip with its stores stand to each other, and that a sample and a latch keep it. Assumes nothing.
 use mathlib.Core.Path.{_≡_, refl, sym, ap, subst, subst⁻¹, _∙_}
-use mathlib.Core.Bool.{Bool, true, false, cond, _&&_}
-use Prim.Native.Nat.{ℕ, zero, suc, _+_, _-_, _*_, _<_, _≤_}
+use mathlib.Core.Bool.{Bool, true, false, cond}
+use Prim.Native.Nat.{ℕ, _+_, _-_, _<_, _≤_}
 use native.Mathlib.Omega.{arith}
 use mathlib.Core.List.{List, [], _∷_, _++_, map}
-use lib.Dec.{T, leb, eqb}
+use lib.Dec.{T, leb}
 use lib.ListN.{length, take, drop, length-append, length-drop}
 use lib.Ieee.{Float, eq}
-use borrow.Author.Tests.{leb-true, le-leb}
+use borrow.Author.Tests.{le-leb}
 use Rattle.stage.specs.Stage.{Step, Stage, ran, outs, both}
 use Rattle.stage.proofs.Laws.{Relates, Both, relates-both}
 use Rattle.casts.specs.Arithmetic.{_⊕_, _⊗_}
@@ -16,27 +16,24 @@ use Rattle.ramp.specs.declared.Ramp.{Ramp}
 use Rattle.ramp.specs.Ramp.{toward, rampAt}
 use Rattle.rate.specs.declared.Rate.{Rate}
 use Rattle.rate.specs.declared.PlateRate.{PlateRate}
-use Rattle.rate.specs.Rate.{RateUsable, tapeSamples, plateSamples, ceilingSamples, valuesAt, tapeCounts, ceilingCounts, positionsAt, mostPoints}
+use Rattle.rate.specs.Rate.{RateUsable, valuesAt, positionsAt}
 use Rattle.rate.specs.Plate.{PlateUsable}
-use Rattle.ranges.specs.Ranges.{risingFrom}
 use Rattle.duck.specs.Cursors.{duckOn, kicksIn, duckFormed}
-use Rattle.tape.specs.Tape.{Lists, TapeMachine, tapeStep, tapeAtRest}
-use Rattle.tape.specs.Kept.{TapeIn, tapeOn, tapeStepOn, tapeAtRestOn}
+use Rattle.tape.specs.Tape.{Lists, TapeMachine, tapeStep}
+use Rattle.tape.specs.Kept.{TapeIn, tapeStepOn}
 use Rattle.tape.proofs.Related.{TapeHolds, tape-relates, tape-untuned, tape-rest, tape-formed, ring-sized, counts-sized}
-use Rattle.plate.specs.Machine.{PlateMachine, plateStep, atRest}
-use Rattle.plate.specs.Plate.{PlateIn, plateStepOn, atRestOn}
+use Rattle.plate.specs.Machine.{PlateMachine}
+use Rattle.plate.specs.Plate.{PlateIn}
 use Rattle.plate.proofs.Theorem.{PlateHolds, plate-relates}
 use Rattle.plate.proofs.Fresh.{plate-rest}
 use Rattle.master.specs.declared.Heard.{Heard}
 use Rattle.master.specs.Ceiling.{CeilingMachine, ceilingStep}
-use Rattle.master.specs.Kept.{CeilingIn, ceilingOn, ceilingStepOn}
-use Rattle.master.specs.WellFormed.{wellFormed, Sized}
+use Rattle.master.specs.Kept.{CeilingIn, ceilingStepOn}
 use Rattle.master.proofs.Ready.{Ready, of-ready}
 use Rattle.master.proofs.Stays.{ready-next}
 use Rattle.master.proofs.Refines as refines
 use Rattle.strip.specs.declared.Setup.{Setup}
 use Rattle.strip.specs.declared.Controls.{Controls}
-use Rattle.strip.specs.declared.Strip.{Strip}
 use Rattle.strip.specs.Refusals.{furthest, longEnough, okSetup, okPoints, okRamp}
 use Rattle.strip.specs.Machine.{Machine, sample, mixedStep, stepped, latched, fed, fedAll, delivers, heardFrom, resting}
 use Rattle.strip.specs.Calls.{State, state, tapeIn, plateIn, ceilingIn, listsIn, whole, mixedStepOn, stepOn, ranOn, heardOn, formed, first, latchedStrip, restingOn}

@@ -1,12 +1,12 @@
 -- The four calls on a strip and its two stores: what each gives and leaves, to the last element.
 use Prim.Native.Nat.{ℕ, _+_}
 use mathlib.Core.Bool.{Bool, cond, _&&_}
-use mathlib.Core.List.{List, [], _∷_, _++_, map}
+use mathlib.Core.List.{List, _++_}
 use lib.Dec.{leb, eqb}
 use lib.ListN.{length, take, drop, replicate}
 use lib.Ieee.{Float}
 use Rattle.casts.specs.Arithmetic.{_⊕_, _⊗_, nought}
-use Rattle.stage.specs.Stage.{Step, Stage, ran, outs}
+use Rattle.stage.specs.Stage.{Stage, ran, outs}
 use Rattle.stream.specs.declared.Frame.{Frame}
 use Rattle.ramp.specs.declared.Shape.the-variants.{Linear}
 use Rattle.ramp.specs.Ramp.{held, toward}

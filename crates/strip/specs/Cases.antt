@@ -1,7 +1,7 @@
 -- Document 01's marked cases, in one table. Each is proved beside its definition; proofs/Cases.antt gathers them.
 use mathlib.Core.Path.{_≡_}
 use mathlib.Core.Bool.{true}
-use mathlib.Core.List.{List, [], _∷_, map}
+use mathlib.Core.List.{[], _∷_, map}
 use Prim.Native.Nat.{ℕ}
 use lib.Ieee.{Float, nan, binary64, ofBits, neg, eq}
 use Rattle.casts.specs.Arithmetic.{_⊗_, nought, half, one, two, whole}

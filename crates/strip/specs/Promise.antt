@@ -10,7 +10,6 @@ use Rattle.casts.specs.Step.{stepOf}
 use Rattle.stream.specs.declared.Frame.{Frame}
 use Rattle.rate.specs.declared.Rate.{Rate}
 use Rattle.tape.specs.Tape.{Lists, tapeStep}
-use Rattle.master.specs.declared.Heard.{Heard}
 use Rattle.master.specs.Ceiling.{needOf, silence}
 use Rattle.master.specs.Kept.{framesOut, countsOut}
 use Rattle.strip.specs.declared.Setup.{Setup}

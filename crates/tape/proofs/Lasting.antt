@@ -9,7 +9,7 @@ use lib.Dec.{ltb}
 use lib.ListN.{length}
 use lib.Ieee.{Float}
 use borrow.Author.Tests.{lt-ltb, le-ltb}
-use Rattle.stage.specs.Stage.{Step, Stage, ran, outs}
+use Rattle.stage.specs.Stage.{Stage, ran, outs}
 use Rattle.stage.proofs.Laws.{ran-carried, outs-carried}
 use Rattle.ramp.specs.declared.Ramp.{Ramp}
 use Rattle.rate.specs.declared.TapeRate.{TapeRate}

@@ -1,12 +1,12 @@
 -- Pass by pass over a block is sample by sample. Assumes nothing.
-use mathlib.Core.Path.{_≡_, refl, sym, ap, _∙_}
+use mathlib.Core.Path.{_≡_, refl, ap, _∙_}
 use mathlib.Core.Bool.{Bool}
 use mathlib.Core.List.{List, map}
 use Prim.Native.Nat.{ℕ, _+_, _<_}
 use native.Mathlib.Omega.{arith}
 use lib.ListN.{length}
 use lib.Ieee.{Float}
-use Rattle.stage.specs.Stage.{Step, Stage, ran, outs, both, mapped}
+use Rattle.stage.specs.Stage.{Stage, ran, outs, both, mapped}
 use Rattle.stage.proofs.Laws.{ran-both, outs-both, ran-mapped, outs-mapped, ran-carried, outs-carried}
 use Rattle.ramp.specs.declared.Ramp.{Ramp}
 use Rattle.rate.specs.declared.TapeRate.{TapeRate}

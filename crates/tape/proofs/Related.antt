@@ -6,20 +6,19 @@ use mathlib.Core.List.{List}
 use Prim.Native.Nat.{ℕ, _+_, _-_, _<_, _≤_}
 use native.Mathlib.Omega.{arith}
 use native.Mathlib.Decide.{decLt}
-use lib.ListN.{length, take, drop, replicate, length-set, length-replicate}
+use lib.ListN.{length, replicate, length-replicate}
 use lib.Seq.{take-all}
 use lib.Ieee.{Float}
 use borrow.Author.Tests.{le-leb, lt-ltb, le-ltb}
 use Rattle.casts.specs.Arithmetic.{nought}
 use Rattle.elementary.specs.Elementary.{TANH}
 use Rattle.eight.specs.Each.{saturatedOver}
-use Rattle.stage.specs.Stage.{Step, Stage, identity}
+use Rattle.stage.specs.Stage.{identity}
 use Rattle.stage.proofs.Laws.{Relates}
 use Rattle.biquad.specs.declared.Lowpass.{Lowpass}
 use Rattle.biquad.specs.Section.{lowpassStep, retuned}
 use Rattle.biquad.specs.Cookbook.{lowpassRetuned}
 use Rattle.biquad.proofs.Laws.{lowpass-stepped}
-use Rattle.delay.specs.declared.DelayLine.{DelayLine}
 use Rattle.delay.specs.Delay.{pushOf, atOf, tapOf, linePush, lineTap, lineOf, allZero}
 use Rattle.delay.proofs.Line.{line-push, line-tap, push-length}
 use Rattle.delay.proofs.Rest.{line-rest, line-fresh}
@@ -39,7 +38,7 @@ use Rattle.automation.proofs.Span.{same-tuning}
 use Rattle.tape.specs.declared.Tape.{Tape}
 use Rattle.tape.specs.declared.TapeSetup.{TapeSetup}
 use Rattle.oscillators.specs.Oscillators.{warpDelay}
-use Rattle.tape.specs.Tape.{Lists, TapeMachine, duckedStep, tapeStep, saturated, equalizerStep, freshTape, freshTapeMachine, tapeAtRest}
+use Rattle.tape.specs.Tape.{Lists, TapeMachine, duckedStep, tapeStep, saturated, freshTape, freshTapeMachine, tapeAtRest}
 use Rattle.tape.specs.Kept.{TapeIn, tapeOn, frontStepOn, duckedStepOn, tapeTuned, tunedAfresh, tunedAt, untuned, tapeStepOn, tapeAtRestOn}
 use Rattle.tape.proofs.Lasting.{tuned-some, tuned-equalizer, tuned-duck}
 

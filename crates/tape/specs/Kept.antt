@@ -1,6 +1,5 @@
 -- The lane as it is kept: the warp as a ring in its part of the sample store, the duck with its cursors in its part of the count store. Definitions only.
 use Prim.Native.Nat.{ℕ, _+_, _<_, _≤_}
-use mathlib.Core.Path.{_≡_}
 use mathlib.Core.Bool.{Bool, true, false, cond, _&&_}
 use mathlib.Core.List.{List}
 use lib.Dec.{ltb}
@@ -18,7 +17,6 @@ use Rattle.ramp.specs.declared.Ramp.{Ramp}
 use Rattle.rate.specs.declared.TapeRate.{TapeRate}
 use Rattle.automation.specs.declared.Tone.{Tone}
 use Rattle.automation.specs.Pieces.{pieceAt}
-use Rattle.duck.specs.declared.Duck.{Duck}
 use Rattle.sidechain.specs.declared.DuckRate.{DuckRate}
 use Rattle.duck.specs.Cursors.{DuckIn, duckOn, duckStepOn}
 use Rattle.oscillators.specs.Oscillators.{swellOf, warpDelay}

@@ -27,8 +27,7 @@ loop-holds : tie.Need-loop-holds Inv-loop μ-loop
 loop-holds c =
     let s = c .before .before .before .before .before .before in
     let u : RateUsable (c .cd .result) = rw (c .cd .ensures) usable-44100 in
-    let runs : Runs (c .cd .result) (state (s .args .strip) (s .args .store .now) (s .args .counts .now)) = rw (c .cd .ensures) (s .pre .0) in
-    (
+    let runs : Runs (c .cd .result) (state (s .args .strip) (s .args .store .now) (s .args .counts .now)) = rw (c .cd .ensures) (s .pre .0) in (
       go-start (c .cd .result) u (s .args .drums) (state (s .args .strip) (s .args .store .now) (s .args .counts .now)) (s .args .samples .now) (s .args .frames .now) (s .args .gains .now) runs (s .pre .1 .1 .0) (s .pre .1 .1 .1),
       (s .pre .1 .1 .0, s .pre .1 .1 .1, refl, refl),
     )
@@ -132,8 +131,7 @@ loop-again c =
     let k = c .before .before .before .before .before .before .before .before .block in
     let m = c .before .before .before .before .before .before .before .before .before .before .before .before .before .before .block-len .ensures .2 in
     let h = c .before .before .before .before .before .before .before .before .before .before .before .before .before .before .before .before .before .before .loop-test .taken in
-    let u : RateUsable (r .result) = rw (r .ensures) usable-44100 in
-    (
+    let u : RateUsable (r .result) = rw (r .ensures) usable-44100 in (
       go-turn (r .result) u (s .args .drums) (state (s .args .strip) (s .args .store .now) (s .args .counts .now)) (s .args .samples .now) (state (l .strip) (l .store) (l .counts)) (l .frames) (l .gains) (l .i) _ _ (l .inv .0)
           (omega arith) (omega (arith, m, h)) (k .ensures),
       (c .before .before .before .before .before .before .before .frames .given .1 ∙ l .inv .1 .0, c .before .before .before .before .before .gains .given .1 ∙ l .inv .1 .1, k .kept .1 .1 .1 .1 .1 .1 .1 .0 ∙ l .inv .1 .2, k .kept .1 .1 .1 .1 .1 .1 .1 .1 .0 ∙ l .inv .1 .3),

@@ -1,6 +1,5 @@
 -- `exports_stages::limited` meets its contract. Assumes nothing.
 use mathlib.Core.Path.{subst⁻¹}
-use native.Mathlib.Omega.{arith}
 use lib.Dec.{T}
 use Rattle.rate.specs.declared.CeilingRate.{CeilingRate}
 use Rattle.rate.specs.Ceiling.{Usable}

@@ -1,5 +1,4 @@
 -- `exports_stages::passed` is safe. Assumes nothing.
-use native.Mathlib.Omega.{arith}
 use Rattle.exports_stages.proofs.Fits.{warp-fits}
 use borrow.Author.Needs.{needs}
 use Rattle.exports_stages.proofs.passed.Statement.{statement}

@@ -1,4 +1,3 @@
-use mathlib.Core.Path.{_≡_}
 use lib.Ieee.{nan}
 use Prim.Native.Nat.{_-_}
 use lib.ListN.{length}
