@@ -1,7 +1,8 @@
 //! The cost of the part beside the Rust's: bench [ROUNDS]. Both play one signal by turns. A line is a name, the samples of a
 //! call, and the part's time over the Rust's: the least, the middle and the most of the rounds' ratios. A strip's line has the same
 //! once more with the calls' own cost (as many runs of no sample, which refusal 4 checks like any other) taken off. 'Alone' is the part's
-//! time for samples in calls of 1, the calls' own cost taken off, over its time for them in calls of 1,024, and then over the Rust's.
+//! time for samples in calls of 1, the checks taken off, over its time for them in calls of 1,024, then over the Rust's; last, with the
+//! checks, over the Rust's.
 #![allow(dead_code)]
 
 use std::hint::black_box;
@@ -166,11 +167,11 @@ fn ours(memory: &mut Memory, setup: &Setup, moving: bool, x: &[f64], size: usize
     start.elapsed().as_secs_f64()
 }
 
-/// As many runs of no sample.
-fn empty(memory: &mut Memory, runs: usize) -> f64 {
+/// As many runs of no sample. Lent a frame for none, each is declined by 5, once 1 and 4 have let it pass.
+fn idle(memory: &mut Memory, runs: usize, frames: &mut [f32]) -> f64 {
     timed(&mut || {
         for _ in 0..runs {
-            black_box(memory.whole().run(&[], 1, &mut [], &mut []));
+            black_box(memory.whole().run(&[], 1, frames, &mut []));
         }
     })
 }
@@ -228,7 +229,7 @@ fn strip(name: &str, setup: &Setup, moving: bool, x: &[f64], size: usize, rounds
     let (mut whole, mut apart) = (Vec::new(), Vec::new());
     for _ in 0..rounds {
         let part = ours(&mut memory, setup, moving, x, size, (&mut frames, &mut gains));
-        let calls = empty(&mut memory, x.len().div_ceil(size));
+        let calls = idle(&mut memory, x.len().div_ceil(size), &mut []);
         let rust = theirs(&mut room, setup, moving, x, size, &mut heard);
         whole.push(part / rust);
         apart.push((part - calls) / rust);
@@ -236,19 +237,23 @@ fn strip(name: &str, setup: &Setup, moving: bool, x: &[f64], size: usize, rounds
     println!("{name}\t{size}\t{}\t{}", spread(whole), spread(apart));
 }
 
-/// A sample that comes alone, its call's own cost taken off, beside one of a call of 1,024: the part's, then the Rust's.
+/// A call of one sample beside a sample of a call of 1,024: its checks taken off, beside the part's and the Rust's; whole, beside the Rust's.
 fn alone(name: &str, setup: &Setup, moving: bool, x: &[f64], rounds: u64) {
     let mut memory = Memory::new(0);
     let mut room = Room::new();
     let (mut frames, mut gains) = (vec![0.0f32; 2 * x.len()], vec![0; x.len()]);
     let mut heard = frames.clone();
-    let (mut own, mut other) = (Vec::new(), Vec::new());
+    let (mut own, mut other, mut whole) = (Vec::new(), Vec::new(), Vec::new());
     for _ in 0..rounds {
-        let single = ours(&mut memory, setup, moving, x, 1, (&mut frames, &mut gains)) - empty(&mut memory, x.len());
-        own.push(single / ours(&mut memory, setup, moving, x, 1024, (&mut frames, &mut gains)));
-        other.push(single / theirs(&mut room, setup, moving, x, 1024, &mut heard));
+        let single = ours(&mut memory, setup, moving, x, 1, (&mut frames, &mut gains));
+        let checks = idle(&mut memory, x.len(), &mut [0.0]);
+        let among = ours(&mut memory, setup, moving, x, 1024, (&mut frames, &mut gains));
+        let rust = theirs(&mut room, setup, moving, x, 1024, &mut heard);
+        own.push((single - checks) / among);
+        other.push((single - checks) / rust);
+        whole.push(single / rust);
     }
-    println!("{name}, alone\t1\t{}\t{}", spread(own), spread(other));
+    println!("{name}, alone\t1\t{}\t{}\t{}", spread(own), spread(other), spread(whole));
 }
 
 fn main() {
@@ -263,6 +268,7 @@ fn main() {
     }
     alone("everything, moving", &lane(true), true, &x, rounds);
     alone("plain, fixed", &plain(), false, &x, rounds);
+    alone("1,024 kicks", &crowded(), false, &x[..8192], rounds);
     for size in [64, 1024] {
         tape("tape", &lane(false), &x, size, rounds);
         tape("tape swept", &lane(true), &x, size, rounds);
