@@ -1,5 +1,5 @@
 -- The plate's lines, each as a history and as a ring of its part: a lattice all-pass, and a plain delay. Definitions only.
-use Prim.Native.Nat.{_+_, _-_, _<_, _≤_}
+use Prim.Native.Nat.{ℕ, _+_, _-_, _<_, _≤_}
 use mathlib.Core.List.{List}
 use lib.ListN.{length}
 use lib.Ieee.{Float}
@@ -48,8 +48,12 @@ latticeFromOn r g d n part x =
 unfoldable pub latticeOn : LineRate → Float → Stage (List Float) Float Float
 latticeOn r g n part x = latticeFromOn r g (lineAt (r .line) part n (r .delay - 1)) n part x
 
+-- what a lattice's line gives, `stretch` frames longer
+unfoldable pub stretchedAt : LineRate → Float → Float → ℕ → List Float → Float
+stretchedAt r reach stretch n part = lineTap (r .line) part n reach (whole (r .delay) ⊕ stretch ⊖ one)
+
 unfoldable pub stretchedOn : LineRate → Float → Float → Float → Stage (List Float) Float Float
-stretchedOn r reach stretch g n part x = latticeFromOn r g (lineTap (r .line) part n reach (whole (r .delay) ⊕ stretch ⊖ one)) n part x
+stretchedOn r reach stretch g n part x = latticeFromOn r g (stretchedAt r reach stretch n part) n part x
 
 unfoldable pub delayOn : LineRate → Stage (List Float) Float Float
 delayOn r n part x =

@@ -4,7 +4,7 @@ use rate::LineRate;
 ghost use mathlib.Core.Path.{_≡_};
 ghost use Prim.Native.Nat.{_<_};
 ghost use Rattle.delay.specs.Delay.{Reach};
-ghost use Rattle.allpass.specs.Allpass.{gave, storedOf, latticeFromOn, latticeOn, stretchedOn, delayOn, Lent};
+ghost use Rattle.allpass.specs.Allpass.{gave, storedOf, latticeFromOn, latticeOn, stretchedAt, delayOn, Lent};
 
 // What a line inside a loop takes. Adding 0 turns -0 into +0, as the Rust's kick of 0 does.
 pub fn stored(v: f64) -> f64
@@ -14,7 +14,7 @@ pub fn stored(v: f64) -> f64
 }
 
 // A lattice of coefficient g whose line gives d.
-fn lattice_from(rate: LineRate, part: &mut [f64], g: f64, d: f64, x: f64, n: u64) -> f64
+pub fn lattice_from(rate: LineRate, part: &mut [f64], g: f64, d: f64, x: f64, n: u64) -> f64
     requires { ⌜ Lent rate (now part) ⌝ }
     ensures { λ r. ⌜ gave (now (part .exit)) r ≡ latticeFromOn rate g d n (now (part .entry)) x ⌝ }
 {
@@ -32,23 +32,14 @@ pub fn lattice(rate: LineRate, part: &mut [f64], g: f64, x: f64, n: u64) -> f64
     lattice_from(rate, part, g, d, x, n)
 }
 
-// A lattice stretch frames longer, between frames.
-pub fn stretched(
-    rate: LineRate,
-    part: &mut [f64],
-    reach: f64,
-    stretch: f64,
-    g: f64,
-    x: f64,
-    n: u64,
-) -> f64
+// What a lattice's line gives stretch frames beyond its length, between frames.
+pub fn stretched(rate: LineRate, part: &[f64], reach: f64, stretch: f64, n: u64) -> f64
     requires { ⌜ Lent rate (now part) ⌝ }
     requires { ⌜ Reach reach ⌝ }
-    ensures { λ r. ⌜ gave (now (part .exit)) r ≡ stretchedOn rate reach stretch g n (now (part .entry)) x ⌝ }
+    ensures { λ r. ⌜ r ≡ stretchedAt rate reach stretch n (now (part .entry)) ⌝ }
 {
     let back = std::num::nearest_u64_to_f64(rate.delay) + stretch - 1.0;
-    let d = rate.line.tap(part, n, reach, back);
-    lattice_from(rate, part, g, d, x, n)
+    rate.line.tap(part, n, reach, back)
 }
 
 // A plain delay: pushed, then read at its length.

@@ -13,7 +13,7 @@ use Rattle.onepole.specs.declared.OnePole.{OnePole}
 use Rattle.onepole.specs.OnePole.{onePoleAt, onePoleStep, onePoleAtRest}
 use Rattle.biquad.specs.Section.{sectionAt, sectionStep, sectionAtRest}
 use Rattle.delay.specs.Delay.{linePush, lineAt, allZero}
-use Rattle.allpass.specs.Allpass.{storedOf, latticeOn, stretchedOn, delayOn}
+use Rattle.allpass.specs.Allpass.{storedOf, latticeFromOn, latticeOn, stretchedAt, delayOn}
 use Rattle.rate.specs.declared.InputRate.{InputRate}
 use Rattle.rate.specs.declared.HalfRate.{HalfRate}
 use Rattle.rate.specs.declared.Taps.{Taps}
@@ -45,13 +45,17 @@ halfIn damping part = record { damping = damping; part = part }
 abbrev pub dampedTo : OnePole → Float → OnePole
 dampedTo p y = record { pole = p .pole; y = y }
 
-unfoldable pub halfOn : HalfRate → Float → Float → ℕ → HalfIn → Float → Float → HalfIn
-halfOn r decay diffusion n s fed stretch =
-    let a = stretchedOn (r .diffuser1) (r .reach) stretch decayDiffusion1 n (s .part) fed in
+-- first is what the line of the first lattice gives
+unfoldable pub halfFrom : HalfRate → Float → Float → ℕ → HalfIn → Float → Float → HalfIn
+halfFrom r decay diffusion n s fed first =
+    let a = latticeFromOn (r .diffuser1) decayDiffusion1 first n (s .part) fed in
     let b = delayOn (r .delay1) n (a .next) (storedOf (a .out)) in
     let damping = onePoleStep (s .damping) (b .out) in
     let d = latticeOn (r .diffuser2) diffusion n (b .next) (damping .y ⊗ decay) in
     halfIn damping (linePush (r .delay2 .line) (d .next) n (storedOf (d .out)))
+
+unfoldable pub halfOn : HalfRate → Float → Float → ℕ → HalfIn → Float → Float → HalfIn
+halfOn r decay diffusion n s fed stretch = halfFrom r decay diffusion n s fed (stretchedAt (r .diffuser1) (r .reach) stretch n (s .part))
 
 unfoldable pub leavingOn : HalfRate → ℕ → List Float → Float
 leavingOn r n part = lineAt (r .delay2 .line) part n (r .delay2 .delay - 1)

@@ -17,10 +17,10 @@ ghost use Rattle.stream.specs.declared.Frame.{Frame};
 ghost use Rattle.casts.specs.Arithmetic.{_⊗_};
 ghost use Rattle.eight.specs.Each.{each, eightOf, listed};
 ghost use Rattle.stage.specs.Stage.{ran, outs};
-ghost use Rattle.allpass.specs.Allpass.{gave};
+ghost use Rattle.allpass.specs.Allpass.{gave, stretchedAt};
 ghost use Rattle.rate.specs.Plate.{InputUsable, HalfUsable, TapsUsable, PlateUsable};
 ghost use Rattle.plate.specs.Machine.{turnOf, stretchOf};
-ghost use Rattle.plate.specs.Plate.{Stretched, inputOn, halfIn, dampedTo, halfOn, leavingOn, tapsOn, tankIn, fedOn, halvesOn, returnedOn, tankOn, plateOn, plateStepOn, freshOn, quietOf, atRestOn, partOf};
+ghost use Rattle.plate.specs.Plate.{Stretched, inputOn, halfIn, dampedTo, halfFrom, leavingOn, tapsOn, tankIn, fedOn, halvesOn, returnedOn, tankOn, plateOn, plateStepOn, freshOn, quietOf, atRestOn, partOf};
 
 const INPUT_DIFFUSION_1: f64 = 0.75;
 
@@ -71,7 +71,8 @@ fn input(rate: InputRate, part: &mut [f64], x: f64, n: u64) -> f64
     allpass::lattice(rate.diffuser4, part, INPUT_DIFFUSION_2, c, n)
 }
 
-// One half of the tank; its damping's output.
+// One half of the tank, first being what the line of its first lattice gives; its damping's output. That read stands apart, so that
+// a half is small enough for the compiler to write out for each side.
 fn half(
     rate: HalfRate,
     decay: f64,
@@ -79,28 +80,29 @@ fn half(
     damping: OnePole,
     part: &mut [f64],
     fed: f64,
-    stretch: f64,
+    first: f64,
     n: u64,
 ) -> f64
     requires { ⌜ HalfUsable rate ⌝ }
     requires { ⌜ (length (now part) ≡ rate .places) × (n < 4294967296) ⌝ }
-    ensures { λ r. ⌜ halfIn (dampedTo damping r) (now (part .exit)) ≡ halfOn rate decay diffusion n (halfIn damping (now (part .entry))) fed stretch ⌝ }
+    ensures { λ r. ⌜ halfIn (dampedTo damping r) (now (part .exit)) ≡ halfFrom rate decay diffusion n (halfIn damping (now (part .entry))) fed first ⌝ }
 {
-    let a = allpass::stretched(
-        rate.diffuser1,
-        part,
-        rate.reach,
-        stretch,
-        DECAY_DIFFUSION_1,
-        fed,
-        n,
-    );
+    let a = allpass::lattice_from(rate.diffuser1, part, DECAY_DIFFUSION_1, first, fed, n);
     let b = allpass::delayed(rate.delay1, part, allpass::stored(a), n);
     let damping = damping.lowpass(b);
     let d = allpass::lattice(rate.diffuser2, part, diffusion, damping.y * decay, n);
     let e = allpass::stored(d);
     rate.delay2.line.push(part, n, e);
     damping.y
+}
+
+// What the line of a half's first lattice gives, stretched, before its pushes.
+fn first_at(rate: HalfRate, part: &[f64], stretch: f64, n: u64) -> f64
+    requires { ⌜ HalfUsable rate ⌝ }
+    requires { ⌜ length (now part) ≡ rate .places ⌝ }
+    ensures { λ r. ⌜ r ≡ stretchedAt (rate .diffuser1) (rate .reach) stretch n (now (part .entry)) ⌝ }
+{
+    allpass::stretched(rate.diffuser1, part, rate.reach, stretch, n)
 }
 
 // The sample leaving a half on this frame, before its pushes.
@@ -230,6 +232,7 @@ fn halves(rate: PlateRate, tank: Tank, part: &mut [f64], fed: Frame, stretch: Fr
 {
     let k = rate.left.places;
     let e = part.len();
+    let first = first_at(rate.left, &part[0..k], stretch.left, n);
     let left = half(
         rate.left,
         rate.decay,
@@ -237,9 +240,10 @@ fn halves(rate: PlateRate, tank: Tank, part: &mut [f64], fed: Frame, stretch: Fr
         tank.left,
         &mut part[0..k],
         fed.left,
-        stretch.left,
+        first,
         n,
     );
+    let first = first_at(rate.right, &part[k..e], stretch.right, n);
     let right = half(
         rate.right,
         rate.decay,
@@ -247,7 +251,7 @@ fn halves(rate: PlateRate, tank: Tank, part: &mut [f64], fed: Frame, stretch: Fr
         tank.right,
         &mut part[k..e],
         fed.right,
-        stretch.right,
+        first,
         n,
     );
     Tank {

@@ -12,14 +12,18 @@ use Rattle.rate.specs.declared.InputRate.{InputRate}
 use Rattle.rate.specs.declared.HalfRate.{HalfRate}
 use Rattle.rate.specs.declared.PlateRate.{PlateRate}
 use Rattle.rate.specs.declared.CeilingRate.{CeilingRate}
-use Rattle.allpass.specs.Allpass.{latticeFromOn, latticeOn, stretchedOn, delayOn}
-use Rattle.plate.specs.Plate.{inputOn, HalfIn, halfIn, halfOn, TankIn, tankIn, fedOn, halvesOn, tankOn, PlateIn, plateStepOn}
+use Rattle.allpass.specs.Allpass.{latticeFromOn, latticeOn, delayOn}
+use Rattle.plate.specs.Plate.{inputOn, HalfIn, halfIn, halfFrom, halfOn, TankIn, tankIn, fedOn, halvesOn, tankOn, PlateIn, plateStepOn}
 use Rattle.plate.specs.Machine.{stretchOf}
 use Rattle.master.specs.Kept.{CeilingIn, ceilingStepOn}
 
+from-sized : (r : LineRate) (g d : Float) (n : ℕ) (part : List Float) (x : Float) → length (latticeFromOn r g d n part x .next) ≡ length part
+unfolding latticeFromOn storePush
+from-sized r g d n part x = length-set part _ _
+
 lattice-sized : (r : LineRate) (g : Float) (n : ℕ) (part : List Float) (x : Float) → length (latticeOn r g n part x .next) ≡ length part
-unfolding latticeOn latticeFromOn storePush
-lattice-sized r g n part x = length-set part _ _
+unfolding latticeOn
+lattice-sized r g n part x = from-sized r g _ n part x
 
 delay-sized : (r : LineRate) (n : ℕ) (part : List Float) (x : Float) → length (delayOn r n part x .next) ≡ length part
 unfolding delayOn storePush
@@ -34,17 +38,13 @@ input-sized r n part x =
     ∙ lattice-sized (r .diffuser1) _ n _ _
     ∙ delay-sized (r .predelay) n part x
 
-stretched-sized : (r : LineRate) (reach stretch g : Float) (n : ℕ) (part : List Float) (x : Float) → length (stretchedOn r reach stretch g n part x .next) ≡ length part
-unfolding stretchedOn latticeFromOn storePush
-stretched-sized r reach stretch g n part x = length-set part _ _
-
 half-sized : (r : HalfRate) (decay diffusion : Float) (n : ℕ) (s : HalfIn) (fed stretch : Float) → length (halfOn r decay diffusion n s fed stretch .part) ≡ length (s .part)
-unfolding halfOn storePush
+unfolding halfOn halfFrom storePush
 half-sized r decay diffusion n s fed stretch =
     simp length-set
     (lattice-sized (r .diffuser2) diffusion n _ _
     ∙ delay-sized (r .delay1) n _ _
-    ∙ stretched-sized (r .diffuser1) (r .reach) stretch _ n (s .part) fed)
+    ∙ from-sized (r .diffuser1) _ _ n (s .part) fed)
 
 two-parts : (k : ℕ) (l a b : List Float) → length a ≡ length (take k l) → length b ≡ length (drop k l) → length (a ++ b) ≡ length l
 two-parts k l a b e f =

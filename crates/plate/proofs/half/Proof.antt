@@ -4,8 +4,8 @@ use borrow.Author.Needs.{needs}
 use Rattle.plate.proofs.half.Statement.{statement}
 use Rattle.plate.proofs.half.Tie as tie
 
-stretched-requires : tie.Need-stretched-requires
-stretched-requires c κs = search needs
+lattice-from-requires : tie.Need-lattice-from-requires
+lattice-from-requires c κs = search needs
 
 stored-requires : tie.Need-stored-requires
 stored-requires c κs = search needs
@@ -29,13 +29,13 @@ same-length : tie.Need-same-length
 same-length c = search needs
 
 returns : tie.Need-returns
-returns c = let s = c .before .before .before .before .before .before .before .before .before .before .before .before .before .before .before .before .before .before .before .before .before in half-is (s .args .rate) (s .args .decay) (s .args .diffusion) (s .args .n) (s .args .damping) (s .args .part .now) (s .args .fed) (s .args .stretch) (gave (c .before .before .before .before .before .before .before .before .before .before .before .before .before .before .before .before .before .before .stretched .last .1 .0) (c .before .before .before .before .before .before .before .before .before .before .before .before .before .before .before .before .before .before .stretched .result)) (gave (c .before .before .before .before .before .before .before .before .before .before .before .before .before .delayed .last .1 .0) (c .before .before .before .before .before .before .before .before .before .before .before .before .before .delayed .result)) (gave (c .before .before .before .before .before .before .before .lattice .last .1 .0) (c .before .before .before .before .before .before .before .lattice .result)) (c .before .before .before .before .before .before .before .before .before .before .before .before .before .before .stored .result) (c .before .before .before .before .stored2 .result) (c .before .before .before .before .before .before .before .before .before .before .lowpass .result) (c .before .before .push .last .1 .0) (c .before .before .before .before .before .before .before .before .before .before .before .before .before .before .before .before .before .before .stretched .ensures) (c .before .before .before .before .before .before .before .before .before .before .before .before .before .before .stored .ensures) (c .before .before .before .before .before .before .before .before .before .before .before .before .before .delayed .ensures) (c .before .before .before .before .before .before .before .before .before .before .lowpass .ensures) (c .before .before .before .before .before .before .before .lattice .ensures) (c .before .before .before .before .stored2 .ensures) (c .before .before .push .ensures)
+returns c = let s = c .before .before .before .before .before .before .before .before .before .before .before .before .before .before .before .before .before .before .before .before .before in half-is (s .args .rate) (s .args .decay) (s .args .diffusion) (s .args .n) (s .args .damping) (s .args .part .now) (s .args .fed) (s .args .first) (gave (c .before .before .before .before .before .before .before .before .before .before .before .before .before .before .before .before .before .before .lattice-from .last .1 .0) (c .before .before .before .before .before .before .before .before .before .before .before .before .before .before .before .before .before .before .lattice-from .result)) (gave (c .before .before .before .before .before .before .before .before .before .before .before .before .before .delayed .last .1 .0) (c .before .before .before .before .before .before .before .before .before .before .before .before .before .delayed .result)) (gave (c .before .before .before .before .before .before .before .lattice .last .1 .0) (c .before .before .before .before .before .before .before .lattice .result)) (c .before .before .before .before .before .before .before .before .before .before .before .before .before .before .stored .result) (c .before .before .before .before .stored2 .result) (c .before .before .before .before .before .before .before .before .before .before .lowpass .result) (c .before .before .push .last .1 .0) (c .before .before .before .before .before .before .before .before .before .before .before .before .before .before .before .before .before .before .lattice-from .ensures) (c .before .before .before .before .before .before .before .before .before .before .before .before .before .before .stored .ensures) (c .before .before .before .before .before .before .before .before .before .before .before .before .before .delayed .ensures) (c .before .before .before .before .before .before .before .before .before .before .lowpass .ensures) (c .before .before .before .before .before .before .before .lattice .ensures) (c .before .before .before .before .stored2 .ensures) (c .before .before .push .ensures)
 
 pub half-spec : {M : Type 1} → statement M
 half-spec =
     tie.close
     (tie.spec
-    stretched-requires
+    lattice-from-requires
     stored-requires
     delayed-requires
     lowpass-requires
