@@ -1,7 +1,7 @@
 -- A piece: the tuning of its first sample is that of each. Assumes nothing.
 use mathlib.Core.Path.{_≡_}
 use mathlib.Core.List.{List}
-use Prim.Native.Nat.{ℕ, _+_, _-_, _%_, _<_, _≤_}
+use Prim.Native.Nat.{ℕ, _+_, _-_, _%_, _<_, _≤_, min}
 use native.Mathlib.Decide.{decLe}
 use native.Mathlib.Omega.{arith}
 use lib.ListN.{length, getD}
@@ -18,54 +18,82 @@ same-block : (n j : ℕ) → j < 32 - n % 32 → blockOf (n + j) ≡ blockOf n
 unfolding blockOf
 same-block n j h = omega arith
 
--- the ramp's end is no nearer than its span
-end-span : (r : Ramp) (n : ℕ) → n < rampEnd r → rampSpan r n ≤ rampEnd r - n
-unfolding rampSpan
-end-span r n h = rw (lt-leb (rampEnd r) n h) (omega arith)
+module _ (r : Ramp) (n : ℕ) where
+  -- an ended ramp's span and that of one on its way
+  ramp-ended : rampEnd r ≤ n → rampSpan r n ≡ 4294967296
+  unfolding rampSpan
+  ramp-ended h = rw (le-leb (rampEnd r) n h)
 
-ramp-some : (r : Ramp) (n : ℕ) → 0 < rampSpan r n
-unfolding rampSpan
-ramp-some r n = elim (decLe (rampEnd r) n) [
-  | yes h ↦ rw (le-leb (rampEnd r) n h) (omega arith)
-  | no h ↦ rw (lt-leb (rampEnd r) n (omega arith)) (omega arith)
-]
+  ramp-going : n < rampEnd r → rampSpan r n ≡ min (rampEnd r - n) (32 - n % 32)
+  unfolding rampSpan
+  ramp-going h = rw (lt-leb (rampEnd r) n h)
 
--- the next point is no nearer than the sweep's
-next-span : (ps : List ℕ) (n : ℕ) → reached ps n < length ps → sweepSpan ps n ≤ getD ps (reached ps n) 0 - n
-unfolding sweepSpan
-next-span ps n h = rw (ne-eqb (reached ps n) (length ps) (λ e. omega arith)) (omega arith)
+  ramp-some : 0 < rampSpan r n
+  ramp-some = elim (decLe (rampEnd r) n) [ yes h ↦ omega (arith, ramp-ended h) | no h ↦ omega (arith, ramp-going (omega arith)) ]
 
-sweep-some : (ps : List ℕ) (n : ℕ) → 0 < sweepSpan ps n
-unfolding sweepSpan
-sweep-some ps n = let m = reached-most ps n in elim (decLe (length ps) (reached ps n)) [
-  | yes h ↦ rw (eq-eqb (reached ps n) (length ps) (omega arith)) (omega arith)
-  | no h ↦ let f = reached-next ps n (omega arith) in rw (ne-eqb (reached ps n) (length ps) (λ e. omega arith)) (omega arith)
-]
+  ramp-most : rampSpan r n ≤ 4294967296
+  ramp-most = elim (decLe (rampEnd r) n) [ yes h ↦ omega (arith, ramp-ended h) | no h ↦ omega (arith, ramp-going (omega arith)) ]
+
+  daylight-same : (j : ℕ) → j < rampSpan r n → daylightOf r (n + j) ≡ daylightOf r n
+  unfolding daylightOf
+  daylight-same j h = elim (decLe (rampEnd r) n) [
+    | yes i ↦ rw (le-leb (rampEnd r) (n + j) (omega arith), le-leb (rampEnd r) n i)
+    | no i ↦
+        let e = ramp-going (omega arith) in
+        rw (same-block n j (omega arith), lt-leb (rampEnd r) n (omega arith), lt-leb (rampEnd r) (n + j) (omega arith))
+  ]
+
+module _ (ps : List ℕ) (n : ℕ) where
+  -- the sweep's span after all points, before any, and between two
+  sweep-ended : length ps ≤ reached ps n → sweepSpan ps n ≡ 4294967296
+  unfolding sweepSpan
+  sweep-ended h = rw (eq-eqb (reached ps n) (length ps) (omega (arith, reached-most ps n)))
+
+  sweep-first : reached ps n < length ps → reached ps n ≡ 0 → sweepSpan ps n ≡ getD ps (reached ps n) 0 - n
+  unfolding sweepSpan
+  sweep-first h z = rw (ne-eqb (reached ps n) (length ps) (λ e. omega arith), eq-eqb (reached ps n) 0 z)
+
+  sweep-going : reached ps n < length ps → 0 < reached ps n → sweepSpan ps n ≡ min (getD ps (reached ps n) 0 - n) (32 - n % 32)
+  unfolding sweepSpan
+  sweep-going h k = rw (ne-eqb (reached ps n) (length ps) (λ e. omega arith), ne-eqb (reached ps n) 0 (λ e. omega arith))
+
+  -- the next point is no nearer than the span
+  next-span : reached ps n < length ps → sweepSpan ps n ≤ getD ps (reached ps n) 0 - n
+  next-span h = elim (decLe (reached ps n) 0) [ yes z ↦ omega (arith, sweep-first h (omega arith)) | no z ↦ omega (arith, sweep-going h (omega arith)) ]
+
+  sweep-some : 0 < sweepSpan ps n
+  sweep-some = elim (decLe (length ps) (reached ps n)) [
+    | yes h ↦ omega (arith, sweep-ended h)
+    | no h ↦
+        let f = reached-next ps n (omega arith) in
+        elim (decLe (reached ps n) 0) [ yes z ↦ omega (arith, sweep-first (omega arith) (omega arith)) | no z ↦ omega (arith, sweep-going (omega arith) (omega arith)) ]
+  ]
+
+  points-same : (j : ℕ) → j < sweepSpan ps n → reached ps (n + j) ≡ reached ps n
+  points-same j h = reached-same ps n j (λ k. let e = next-span k in let f = reached-next ps n k in omega arith)
+
+  -- only between two points does the value go by blocks
+  sweep-same : (xs : List Float) (j : ℕ) → j < sweepSpan ps n → sweepAt ps xs (n + j) ≡ sweepAt ps xs n
+  unfolding sweepAt segment
+  sweep-same xs j h = elim (decLe (reached ps n) 0) [
+    | yes z ↦ rw (points-same j h, eq-eqb (reached ps n) 0 (omega arith))
+    | no z ↦ elim (decLe (length ps) (reached ps n)) [
+      | yes l ↦ rw (points-same j h, eq-eqb (reached ps n) (length ps) (omega (arith, reached-most ps n)))
+      | no l ↦
+          let e = sweep-going (omega arith) (omega arith) in
+          rw (points-same j h, same-block n j (omega arith))
+    ]
+  ]
 
 pub span-some : (r : Ramp) (ps : List ℕ) (n : ℕ) → 0 < span r ps n
 unfolding span
 span-some r ps n = omega (arith, ramp-some r n, sweep-some ps n)
 
-pub span-most : (r : Ramp) (ps : List ℕ) (n : ℕ) → span r ps n ≤ 32 - n % 32
+pub span-most : (r : Ramp) (ps : List ℕ) (n : ℕ) → span r ps n ≤ 4294967296
 unfolding span
-span-most r ps n = omega arith
-
-daylight-same : (r : Ramp) (n j : ℕ) → j < 32 - n % 32 → j < rampSpan r n → daylightOf r (n + j) ≡ daylightOf r n
-unfolding daylightOf
-daylight-same r n j b h = elim (decLe (rampEnd r) n) [
-  | yes i ↦ rw (le-leb (rampEnd r) (n + j) (omega arith), le-leb (rampEnd r) n i)
-  | no i ↦
-      let e = end-span r n (omega arith) in
-      rw (same-block n j b, lt-leb (rampEnd r) n (omega arith), lt-leb (rampEnd r) (n + j) (omega arith))
-]
-
-sweep-same : (ps : List ℕ) (xs : List Float) (n j : ℕ) → j < 32 - n % 32 → j < sweepSpan ps n → sweepAt ps xs (n + j) ≡ sweepAt ps xs n
-unfolding sweepAt segment
-sweep-same ps xs n j b h =
-    rw (reached-same ps n j (λ k. let e = next-span ps n k in let f = reached-next ps n k in omega arith), same-block n j b)
+span-most r ps n = omega (arith, ramp-most r n)
 
 -- the law that a run's pieces stand on
 pub same-tuning : (tone : Tone) (r : Ramp) (ps : List ℕ) (xs : List Float) (n j : ℕ) → j < span r ps n → tuningAt tone r ps xs (n + j) ≡ tuningAt tone r ps xs n
 unfolding tuningAt span
-same-tuning tone r ps xs n j h =
-    rw (daylight-same r n j (omega arith) (omega arith), sweep-same ps xs n j (omega arith) (omega arith))
+same-tuning tone r ps xs n j h = rw (daylight-same r n j (omega arith), sweep-same ps n xs j (omega arith))

@@ -1,4 +1,4 @@
--- How many samples have the tuning of the first: to the block's end, the ramp's end or the next point. Definitions only.
+-- How many samples have the tuning of the first: to the ramp's end and the next point, and to the block's end only while the ramp or the sweep is on its way. Definitions only.
 use mathlib.Core.Path.{_≡_}
 use Prim.Native.Nat.{ℕ, _-_, _%_, _≤_, min}
 use mathlib.Core.Bool.{cond}
@@ -17,16 +17,18 @@ pub record Reached (ps : List ℕ) (n i : ℕ) : Type 0 where
   pub is : i ≡ reached ps n
   pub most : i ≤ length ps
 
--- to the ramp's end, and no further than a block
+-- an ended ramp lets the daylight be to the last position; one on its way, to its end and no further than the block's
 unfoldable pub rampSpan : Ramp → ℕ → ℕ
-rampSpan r n = cond (leb (rampEnd r) n) 32 (min (rampEnd r - n) 32)
+rampSpan r n = cond (leb (rampEnd r) n) 4294967296 (min (rampEnd r - n) (32 - n % 32))
 
--- to the next point
+-- before any point the sweep is flat up to the first, after all it stays; between two, to the next and no further than the block's end
 unfoldable pub sweepSpan : List ℕ → ℕ → ℕ
-sweepSpan ps n = cond (eqb (reached ps n) (length ps)) 32 (min (getD ps (reached ps n) 0 - n) 32)
+sweepSpan ps n =
+    let i = reached ps n in
+    cond (eqb i (length ps)) 4294967296 (cond (eqb i 0) (getD ps i 0 - n) (min (getD ps i 0 - n) (32 - n % 32)))
 
 unfoldable pub span : Ramp → List ℕ → ℕ → ℕ
-span r ps n = min (32 - n % 32) (min (rampSpan r n) (sweepSpan ps n))
+span r ps n = min (rampSpan r n) (sweepSpan ps n)
 
 unfoldable pub pieceAt : Tone → Ramp → List ℕ → List Float → ℕ → Piece
 pieceAt tone daylight ps xs n = record { tuning = tuningAt tone daylight ps xs n; len = span daylight ps n }

@@ -10,6 +10,9 @@ use ramp::Ramp;
 // The samples of a block, counted from position 0.
 const COEFF_BLOCK: u64 = 32;
 
+// The last position.
+const LAST: u64 = 4294967296;
+
 // The corner that a sweep closes to.
 const FILTERED_HZ: f32 = 800.0;
 
@@ -178,41 +181,45 @@ pub fn tone_at(tone: Tone, t: f64) -> Tuning
 
 // ---- a piece
 
-// How many samples from n on the ramp lets the daylight be, of at most a block. No sum of it can wrap.
+// How many samples from n on the ramp lets the daylight be: all once it has ended, else to its end or the block's. No sum of it can wrap.
 fn ramp_span(r: Ramp, n: u64) -> u64
     ensures { λ v. ⌜ v ≡ rampSpan r n ⌝ }
 {
     if r.ended(n) {
-        return COEFF_BLOCK;
+        return LAST;
     }
+    let block = COEFF_BLOCK - n % COEFF_BLOCK;
     if r.start <= n {
-        return least(r.len - (n - r.start), COEFF_BLOCK);
+        return least(r.len - (n - r.start), block);
     }
     let gap = r.start - n;
-    if COEFF_BLOCK <= gap {
-        return COEFF_BLOCK;
+    if block <= gap {
+        return block;
     }
-    gap + least(r.len, COEFF_BLOCK - gap)
+    gap + least(r.len, block - gap)
 }
 
-// The same of the sweep: to the next point, i being the points reached.
+// The same of the sweep, i being the points reached: it moves only between two points.
 fn sweep_span(positions: &[u64], i: usize, n: u64) -> u64
     requires { ⌜ Reached (now positions) n i ⌝ }
     ensures { λ v. ⌜ v ≡ sweepSpan (now (positions .entry)) n ⌝ }
 {
     if i == positions.len() {
-        return COEFF_BLOCK;
+        return LAST;
     }
-    least(positions[i] - n, COEFF_BLOCK)
+    let gap = positions[i] - n;
+    if i == 0 {
+        return gap;
+    }
+    least(gap, COEFF_BLOCK - n % COEFF_BLOCK)
 }
 
-// The same of the block, the ramp and the sweep together.
+// The same of the ramp and the sweep together.
 fn span_from(daylight: Ramp, positions: &[u64], i: usize, n: u64) -> u64
     requires { ⌜ Reached (now positions) n i ⌝ }
     ensures { λ v. ⌜ v ≡ span daylight (now (positions .entry)) n ⌝ }
 {
-    let until = least(ramp_span(daylight, n), sweep_span(positions, i, n));
-    least(COEFF_BLOCK - n % COEFF_BLOCK, until)
+    least(ramp_span(daylight, n), sweep_span(positions, i, n))
 }
 
 // The corner and the drive of the sample at n.

@@ -42,7 +42,7 @@ pub struct Equalizer {
     pub tilt: OnePole,
 }
 
-// The filters and the duck; the drive and its TANH; and the first position that the tone's corner and the drive do not hold for.
+// The filters and the duck; the drive and its TANH; and the position up to which the tone's corner and the drive hold.
 pub struct Tape {
     pub tone: Lowpass,
     pub equalizer: Equalizer,

@@ -15,6 +15,9 @@ returns : tie.Need-returns
 unfolding rampSpan
 returns c = rw (sym (c .before .ended .ensures) ∙ c .if1 .taken)
 
+sub-block : tie.Need-sub-block
+sub-block c = search needs
+
 sub-least : tie.Need-sub-least
 sub-least c = let d = c .before .before .before .before in
     let r = d .before .before .args .r in
@@ -61,6 +64,7 @@ ramp-span-spec =
     (tie.spec
     ended-requires
     returns
+    sub-block
     sub-least
     least-requires
     returns-2

@@ -13,23 +13,9 @@ sweep-span-requires c κs = search needs
 least-requires : tie.Need-least-requires
 least-requires c κs = search needs
 
-sub-least : tie.Need-sub-least
-sub-least c = search needs
-
-least-requires-2 : tie.Need-least-requires-2
-least-requires-2 c κs = search needs
-
 returns : tie.Need-returns
 unfolding span
-returns c = rw (c .least2 .ensures, c .before .least .ensures, c .before .before .sweep-span .ensures, c .before .before .before .ramp-span .ensures)
+returns c = rw (c .least .ensures, c .before .sweep-span .ensures, c .before .before .ramp-span .ensures)
 
 pub span-from-spec : {M : Type 1} → statement M
-span-from-spec =
-    tie.close
-    (tie.spec
-    ramp-span-requires
-    sweep-span-requires
-    least-requires
-    sub-least
-    least-requires-2
-    returns)
+span-from-spec = tie.close (tie.spec ramp-span-requires sweep-span-requires least-requires returns)
