@@ -9,6 +9,7 @@ use lib.Ieee.{Float, le}
 unfoldable pub inRange : Float → Float → Float → Bool
 inRange lo hi x = le lo x && le x hi
 
+-- each of a list
 unfoldable pub allInRange : Float → Float → List Float → Bool
 allInRange lo hi [] = true
 allInRange lo hi (x ∷ xs) = inRange lo hi x && allInRange lo hi xs
