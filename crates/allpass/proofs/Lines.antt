@@ -12,7 +12,7 @@ use Rattle.delay.proofs.Line.{Apart, push-length, line-push, line-push-other, l
 use Rattle.rate.specs.declared.LineRate.{LineRate}
 use Rattle.rate.specs.Plate.{LineUsable}
 use Rattle.allpass.specs.Allpass.{latticeFrom, latticeStep, stretchedStep, delayStep}
-use Rattle.allpass.specs.Allpass.{latticeFromOn, latticeOn, stretchedAt, stretchedOn, delayOn}
+use Rattle.allpass.specs.Allpass.{latticeFromOn, latticeOn, stretchedAt, delayOn}
 
 -- after a push into l, every other line is as it was
 pub record Pushed (l : DelayLine) (s s′ : List Float) : Type 0 where
@@ -44,8 +44,8 @@ module _ (l : LineRate) (at : ℕ) (u : LineUsable l at) (s : List Float) (n : �
       let k : l .delay - 1 < l .line .ring = omega (arith, u .within) in
       from-does g _ _ (rw h (line-at (l .line) (u .ring) s n (l .delay - 1) k))
 
-  pub stretched-does : (reach stretch g : Float) → toUnsigned 64 reach + 1 < l .line .ring → Does (l .line) s n (stretchedStep l reach stretch g line x) (stretchedOn l reach stretch g n s y)
-  unfolding stretchedStep stretchedOn stretchedAt
+  pub stretched-does : (reach stretch g : Float) → toUnsigned 64 reach + 1 < l .line .ring → Does (l .line) s n (stretchedStep l reach stretch g line x) (latticeFromOn l g (stretchedAt l reach stretch n s) n s y)
+  unfolding stretchedStep stretchedAt
   stretched-does reach stretch g k = from-does g _ _ (rw h (line-tap (l .line) (u .ring) s n reach _ k))
 
   pub delay-does : Does (l .line) s n (delayStep l line x) (delayOn l n s y)

@@ -52,9 +52,6 @@ latticeOn r g n part x = latticeFromOn r g (lineAt (r .line) part n (r .delay - 
 unfoldable pub stretchedAt : LineRate → Float → Float → ℕ → List Float → Float
 stretchedAt r reach stretch n part = lineTap (r .line) part n reach (whole (r .delay) ⊕ stretch ⊖ one)
 
-unfoldable pub stretchedOn : LineRate → Float → Float → Float → Stage (List Float) Float Float
-stretchedOn r reach stretch g n part x = latticeFromOn r g (stretchedAt r reach stretch n part) n part x
-
 unfoldable pub delayOn : LineRate → Stage (List Float) Float Float
 delayOn r n part x =
     let p = linePush (r .line) part n x in

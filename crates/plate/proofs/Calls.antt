@@ -20,7 +20,7 @@ use Rattle.allpass.specs.Allpass.{storedOf, gave, latticeFromOn, latticeOn, str
 use Rattle.plate.specs.declared.Tank.{Tank}
 use Rattle.plate.specs.declared.Plate.{Plate}
 use Rattle.plate.specs.Machine.{inputDiffusion1, inputDiffusion2, decayDiffusion1, stretchOf}
-use Rattle.plate.specs.Plate.{inputOn, halfIn, dampedTo, halfFrom, halfOn, leavingOn, tapsOn, TankIn, tankIn, fedOn, halvesOn, returnedOn, tankOn, plateOn, plateStepOn}
+use Rattle.plate.specs.Plate.{inputOn, halfIn, halfFrom, halfOn, leavingOn, tapsOn, TankIn, tankIn, fedOn, halvesOn, returnedOn, tankOn, plateOn, plateStepOn}
 use Rattle.plate.proofs.Parts.{first-is, second-is, second-after, put-both}
 
 pub input-is : (r : InputRate) (n : ℕ) (s : List Float) (x : Float) (p a b c d : Step (List Float) Float) → p ≡ delayOn (r .predelay) n s x
@@ -32,10 +32,6 @@ pub input-is : (r : InputRate) (n : ℕ) (s : List Float) (x : Float) (p a b c d
 unfolding inputOn
 input-is r n s x p a b c d e1 e2 e3 e4 e5 = rw (e5, e4, e3, e2, e1)
 
-pole-kept : (q : OnePole) (x : Float) → dampedTo q (onePoleStep q x .y) ≡ onePoleStep q x
-unfolding onePoleStep
-pole-kept q x = refl
-
 module _ (r : HalfRate) (decay diffusion : Float) (n : ℕ) (q : OnePole) (s : List Float) (fed first : Float) where
   pub half-is : (a b d : Step (List Float) Float) (u v : Float) (damping : OnePole) (l : List Float)
       → a ≡ latticeFromOn (r .diffuser1) decayDiffusion1 first n s fed
@@ -45,22 +41,21 @@ module _ (r : HalfRate) (decay diffusion : Float) (n : ℕ) (q : OnePole) (s : L
       → d ≡ latticeOn (r .diffuser2) diffusion n (b .next) (damping .y ⊗ decay)
       → v ≡ storedOf (d .out)
       → l ≡ linePush (r .delay2 .line) (d .next) n v
-      → halfIn (dampedTo q (damping .y)) l ≡ halfFrom r decay diffusion n (halfIn q s) fed first
+      → halfIn damping l ≡ halfFrom r decay diffusion n (halfIn q s) fed first
   unfolding halfFrom
-  half-is a b d u v damping l e1 e2 e3 e4 e5 e6 e7 =
-      ap (λ (p : OnePole). halfIn p l) (ap (λ (p : OnePole). dampedTo q (p .y)) e4 ∙ pole-kept q (b .out) ∙ sym e4) ∙ rw (e7, e6, e5, e4, e3, e2, e1)
+  half-is a b d u v damping l e1 e2 e3 e4 e5 e6 e7 = rw (e7, e6, e5, e4, e3, e2, e1)
 
 -- ---- the halves, each on its own places of the tank's part
 
 module _ (r : PlateRate) (n : ℕ) (s : List Float) (room : r .left .places ≤ length s) where
-  pub halves-is : (tank : Tank) (fed stretch : Frame) (a left b right : Float) (ys zs : List Float) → length ys ≡ r .left .places
+  pub halves-is : (tank : Tank) (fed stretch : Frame) (a b : Float) (left right : OnePole) (ys zs : List Float) → length ys ≡ r .left .places
       → a ≡ stretchedAt (r .left .diffuser1) (r .left .reach) (stretch .left) n (midOf 0 (r .left .places - 0) s)
-      → halfIn (dampedTo (tank .left) left) ys ≡ halfFrom (r .left) (r .decay) (r .diffusion) n (halfIn (tank .left) (midOf 0 (r .left .places - 0) s)) (fed .left) a
+      → halfIn left ys ≡ halfFrom (r .left) (r .decay) (r .diffusion) n (halfIn (tank .left) (midOf 0 (r .left .places - 0) s)) (fed .left) a
       → b ≡ stretchedAt (r .right .diffuser1) (r .right .reach) (stretch .right) n (midOf (r .left .places) (length s - r .left .places) (putMid 0 (r .left .places - 0) s ys))
-      → halfIn (dampedTo (tank .right) right) zs ≡ halfFrom (r .right) (r .decay) (r .diffusion) n (halfIn (tank .right) (midOf (r .left .places) (length s - r .left .places) (putMid 0 (r .left .places - 0) s ys))) (fed .right) b
-      → tankIn (record { left = dampedTo (tank .left) left; right = dampedTo (tank .right) right }) (putMid (r .left .places) (length s - r .left .places) (putMid 0 (r .left .places - 0) s ys) zs) ≡ halvesOn r n (tankIn tank s) fed stretch
+      → halfIn right zs ≡ halfFrom (r .right) (r .decay) (r .diffusion) n (halfIn (tank .right) (midOf (r .left .places) (length s - r .left .places) (putMid 0 (r .left .places - 0) s ys))) (fed .right) b
+      → tankIn (record { left = left; right = right }) (putMid (r .left .places) (length s - r .left .places) (putMid 0 (r .left .places - 0) s ys) zs) ≡ halvesOn r n (tankIn tank s) fed stretch
   unfolding halvesOn halfOn
-  halves-is tank fed stretch a left b right ys zs l d1 e1 d2 e2 =
+  halves-is tank fed stretch a b left right ys zs l d1 e1 d2 e2 =
       let f1 = rw (d1, first-is s (r .left .places) room) at e1 in
       let f2 = rw (d2, second-after s (r .left .places) room ys l) at e2 in
       rw (put-both s (r .left .places) room ys l zs, ← f1, ← f2)

@@ -14,7 +14,7 @@ use Rattle.delay.specs.Delay.{linePush, lineOf}
 use Rattle.delay.proofs.Line.{line-push, line-at}
 use Rattle.rate.specs.declared.HalfRate.{HalfRate}
 use Rattle.rate.specs.Plate.{HalfUsable}
-use Rattle.allpass.specs.Allpass.{storedOf, latticeStep, stretchedStep, delayStep, latticeOn, stretchedOn, delayOn}
+use Rattle.allpass.specs.Allpass.{storedOf, latticeStep, stretchedStep, delayStep, latticeFromOn, latticeOn, stretchedAt, delayOn}
 use Rattle.plate.specs.Machine.{decayDiffusion1, HalfMachine, halfStep, leaving}
 use Rattle.plate.specs.Plate.{HalfIn, halfFrom, halfOn, leavingOn}
 use Rattle.allpass.proofs.Lines.{Pushed, Does, push-pushed, lattice-does, stretched-does, delay-does}
@@ -63,7 +63,7 @@ module _ (r : HalfRate) (u : HalfUsable r) (decay diffusion : Float) (n : ℕ) (
   a₁ = stretchedStep (r .diffuser1) (r .reach) stretch decayDiffusion1 (m .diffuser1) fed
 
   abbrev a₂ : Step (List Float) Float
-  a₂ = stretchedOn (r .diffuser1) (r .reach) stretch decayDiffusion1 n (s .part) fed′
+  a₂ = latticeFromOn (r .diffuser1) decayDiffusion1 (stretchedAt (r .diffuser1) (r .reach) stretch n (s .part)) n (s .part) fed′
 
   aDoes : Does (r .diffuser1 .line) (s .part) n a₁ a₂
   aDoes =
@@ -110,7 +110,7 @@ module _ (r : HalfRate) (u : HalfUsable r) (decay diffusion : Float) (n : ℕ) (
   ePushed = push-pushed (r .delay2 .line) (u .delay2 .ring) (d₂ .next) n (storedOf (d₂ .out))
 
   pub half-keeps : HalfHolds r (n + 1) (halfStep r decay diffusion m fed stretch) (halfOn r decay diffusion n s fed′ stretch)
-  unfolding halfStep halfOn halfFrom stretchedOn
+  unfolding halfStep halfOn halfFrom
   half-keeps =
       record {
         diffuser1 = aDoes .own ∙ bDoes .pushed .other (r .diffuser1 .line) (u .diffuser1 .ring) (inr (before01 r u)) (n + 1) ∙ dDoes .pushed .other (r .diffuser1 .line) (u .diffuser1 .ring) (inr (before02 r u)) (n + 1) ∙ ePushed .other (r .diffuser1 .line) (u .diffuser1 .ring) (inr (before03 r u)) (n + 1);

@@ -41,10 +41,6 @@ pub record HalfIn : Type 0 where
 abbrev pub halfIn : OnePole → List Float → HalfIn
 halfIn damping part = record { damping = damping; part = part }
 
--- a damping whose last output is y
-abbrev pub dampedTo : OnePole → Float → OnePole
-dampedTo p y = record { pole = p .pole; y = y }
-
 -- first is what the line of the first lattice gives
 unfoldable pub halfFrom : HalfRate → Float → Float → ℕ → HalfIn → Float → Float → HalfIn
 halfFrom r decay diffusion n s fed first =

@@ -20,7 +20,7 @@ ghost use Rattle.stage.specs.Stage.{ran, outs};
 ghost use Rattle.allpass.specs.Allpass.{gave, stretchedAt};
 ghost use Rattle.rate.specs.Plate.{InputUsable, HalfUsable, TapsUsable, PlateUsable};
 ghost use Rattle.plate.specs.Machine.{turnOf, stretchOf};
-ghost use Rattle.plate.specs.Plate.{Stretched, inputOn, halfIn, dampedTo, halfFrom, leavingOn, tapsOn, tankIn, fedOn, halvesOn, returnedOn, tankOn, plateOn, plateStepOn, freshOn, quietOf, atRestOn, partOf};
+ghost use Rattle.plate.specs.Plate.{Stretched, inputOn, halfIn, halfFrom, leavingOn, tapsOn, tankIn, fedOn, halvesOn, returnedOn, tankOn, plateOn, plateStepOn, freshOn, quietOf, atRestOn, partOf};
 
 const INPUT_DIFFUSION_1: f64 = 0.75;
 
@@ -71,8 +71,8 @@ fn input(rate: InputRate, part: &mut [f64], x: f64, n: u64) -> f64
     allpass::lattice(rate.diffuser4, part, INPUT_DIFFUSION_2, c, n)
 }
 
-// One half of the tank, first being what the line of its first lattice gives; its damping's output. That read stands apart, so that
-// a half is small enough for the compiler to write out for each side.
+// One half of the tank, first being what the line of its first lattice gives. That read stands apart, so that a half is small
+// enough for the compiler to write out for each side.
 fn half(
     rate: HalfRate,
     decay: f64,
@@ -82,10 +82,10 @@ fn half(
     fed: f64,
     first: f64,
     n: u64,
-) -> f64
+) -> OnePole
     requires { ⌜ HalfUsable rate ⌝ }
     requires { ⌜ (length (now part) ≡ rate .places) × (n < 4294967296) ⌝ }
-    ensures { λ r. ⌜ halfIn (dampedTo damping r) (now (part .exit)) ≡ halfFrom rate decay diffusion n (halfIn damping (now (part .entry))) fed first ⌝ }
+    ensures { λ r. ⌜ halfIn r (now (part .exit)) ≡ halfFrom rate decay diffusion n (halfIn damping (now (part .entry))) fed first ⌝ }
 {
     let a = allpass::lattice_from(rate.diffuser1, part, DECAY_DIFFUSION_1, first, fed, n);
     let b = allpass::delayed(rate.delay1, part, allpass::stored(a), n);
@@ -93,7 +93,7 @@ fn half(
     let d = allpass::lattice(rate.diffuser2, part, diffusion, damping.y * decay, n);
     let e = allpass::stored(d);
     rate.delay2.line.push(part, n, e);
-    damping.y
+    damping
 }
 
 // What the line of a half's first lattice gives, stretched, before its pushes.
@@ -254,16 +254,7 @@ fn halves(rate: PlateRate, tank: Tank, part: &mut [f64], fed: Frame, stretch: Fr
         first,
         n,
     );
-    Tank {
-        left: OnePole {
-            pole: tank.left.pole,
-            y: left,
-        },
-        right: OnePole {
-            pole: tank.right.pole,
-            y: right,
-        },
-    }
+    Tank { left, right }
 }
 
 // Both sides' taps, n samples being pushed.

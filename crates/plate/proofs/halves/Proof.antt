@@ -66,7 +66,7 @@ same-length c = search needs
 returns : tie.Need-returns
 returns c =
     let s = c .before .before .before .before .before .before .before .before .before .before .before .before .before .before .before in
-    halves-is (s .args .rate) (s .args .n) (s .args .part .now) (omega (arith, s .pre .1 .0)) (s .args .tank) (s .args .fed) (s .args .stretch) (c .before .before .before .before .before .before .before .before .before .before .before .first-at .result) (c .before .before .before .before .before .before .before .before .before .half .result) (c .before .before .before .before .first-at2 .result) (c .before .before .half2 .result) _ _
+    halves-is (s .args .rate) (s .args .n) (s .args .part .now) (omega (arith, s .pre .1 .0)) (s .args .tank) (s .args .fed) (s .args .stretch) (c .before .before .before .before .before .before .before .before .before .before .before .first-at .result) (c .before .before .before .before .first-at2 .result) (c .before .before .before .before .before .before .before .before .before .half .result) (c .before .before .half2 .result) _ _
     (omega (arith, c .before .before .before .before .before .before .before .before .before .half .kept .1 .1 .1 .1 .0, c .before .before .before .before .before .before .before .before .before .before .half-arg .given .2)) (c .before .before .before .before .before .before .before .before .before .before .before .first-at .ensures) (c .before .before .before .before .before .before .before .before .before .half .ensures) (c .before .before .before .before .first-at2 .ensures) (c .before .before .half2 .ensures)
 
 pub halves-spec : {M : Type 1} → statement M
