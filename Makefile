@@ -4,9 +4,6 @@
 # replay: the replays' tallies, of the part's answers beside kept lists of the oracle's. bench: the part's time over the Rust's.
 .PHONY: test lib demo sheet replay bench
 
-# rt waits for every crate of a level before it begins the next: with more at a time than processors none stands idle the while
-export RT_JOBS ?= 4
-
 test:
 	rt fmt --check
 	harness/compare 1 20

@@ -1,5 +1,5 @@
 // What the lane plays under: daylight, the sweep and the tone, and how long a tuning lasts.
-// Uses casts, elementary and ramp.
+// Uses casts, ranges, elementary and ramp.
 ghost use mathlib.Core.Path.{_≡_};
 ghost use Prim.Native.Nat.{_<_, _≤_, min, max};
 ghost use lib.ListN.{length};
@@ -9,9 +9,6 @@ use ramp::Ramp;
 
 // The samples of a block, counted from position 0.
 const COEFF_BLOCK: u64 = 32;
-
-// The last position.
-const LAST: u64 = 4294967296;
 
 // The corner that a sweep closes to.
 const FILTERED_HZ: f32 = 800.0;
@@ -186,7 +183,7 @@ fn ramp_span(r: Ramp, n: u64) -> u64
     ensures { λ v. ⌜ v ≡ rampSpan r n ⌝ }
 {
     if r.ended(n) {
-        return LAST;
+        return ranges::LAST;
     }
     let block = COEFF_BLOCK - n % COEFF_BLOCK;
     if r.start <= n {
@@ -205,7 +202,7 @@ fn sweep_span(positions: &[u64], i: usize, n: u64) -> u64
     ensures { λ v. ⌜ v ≡ sweepSpan (now (positions .entry)) n ⌝ }
 {
     if i == positions.len() {
-        return LAST;
+        return ranges::LAST;
     }
     let gap = positions[i] - n;
     if i == 0 {

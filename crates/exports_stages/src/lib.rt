@@ -30,9 +30,6 @@ const LATE: usize = 1323;
 
 const STEPS: usize = 1104;
 
-// No position is above this.
-const LAST: u64 = 4294967296;
-
 fn silence(part: &mut [f64]) {
     let mut i: usize = 0;
     while i < part.len() {
@@ -72,10 +69,10 @@ fn piece_end(at: usize, len: u64, most: usize) -> usize
 fn in_time(n: u64, len: usize) -> bool
     ensures { λ r. ⌜ (r ≡ true → n + len ≤ 4294967296) ⌝ }
 {
-    if LAST < n {
+    if ranges::LAST < n {
         return false;
     }
-    if LAST - n < len as u64 {
+    if ranges::LAST - n < len as u64 {
         return false;
     }
     true
@@ -134,7 +131,7 @@ fn passed(
 fn tuned(own: Tone, daylight: Ramp, points: &[u64], values: &[f64], tape: Tape, n: u64) -> Tape
     requires { ⌜ length (now points) ≤ length (now values) ⌝ }
 {
-    if LAST <= n {
+    if ranges::LAST <= n {
         return tape;
     }
     let rate = TapeRate::cd();
@@ -245,7 +242,7 @@ fn called(
     if values.len() < points.len() {
         return lane;
     }
-    if LAST < n {
+    if ranges::LAST < n {
         return lane;
     }
     let daylight = lane.daylight;

@@ -15,7 +15,7 @@ pub struct Tilted {
     pub out: f64,
 }
 
-const TILT_LIFT: f32 = 0.8;
+pub const TILT_LIFT: f32 = 0.8;
 
 const RAIN_TILT_LIFT: f32 = -0.098;
 

@@ -14,14 +14,12 @@ pub enum Pad {
     Swell { hz: f32, depth: f32 },
 }
 
-const TAU: f64 = 6.28318530717958647692528676655900577;
-
 // The phase in radians, within one cycle, of a sine at hz, n samples in; an f32's value.
 fn phase(rate: u32, hz: f32, n: u64) -> f64
     ensures { λ r. ⌜ r ≡ phaseOf rate hz n ⌝ }
 {
     let cycles = casts::widen(hz) * std::num::nearest_u64_to_f64(n) / (rate as f64);
-    casts::widen(casts::narrow(TAU * (cycles - casts::floor(cycles))))
+    casts::widen(casts::narrow(elementary::TAU * (cycles - casts::floor(cycles))))
 }
 
 // The swell whose sine is s.

@@ -1,11 +1,10 @@
 -- The plate on its part of the sample store: the same steps, each line being a ring of the part. Definitions only.
 -- The part is the input's places, then the left half's, then the right half's.
-use mathlib.Core.Path.{_≡_}
-use Prim.Native.Nat.{ℕ, _+_, _-_, _<_}
+use Prim.Native.Nat.{ℕ, _+_, _-_}
 use mathlib.Core.Bool.{Bool, _&&_}
 use mathlib.Core.List.{List, _++_}
-use lib.ListN.{take, drop, getD}
-use lib.Ieee.{Float, nan}
+use lib.ListN.{take, drop}
+use lib.Ieee.{Float}
 use Rattle.casts.specs.Arithmetic.{_⊕_, _⊖_, _⊗_}
 use Rattle.stage.specs.Stage.{Stage}
 use Rattle.stream.specs.declared.Frame.{Frame}
@@ -98,10 +97,6 @@ unfoldable pub tankOn : PlateRate → Stage TankIn Float Frame
 tankOn r n s x =
     let t = halvesOn r n s (fedOn r n (s .part) x) (stretchOf r n) in
     record { next = t; out = returnedOn r (n + 1) (t .part) }
-
--- ls and rs begin with the stretches of the count frames from n on
-abbrev pub Stretched : PlateRate → ℕ → ℕ → List Float → List Float → Type 0
-Stretched r n count ls rs = (j : ℕ) → j < count → _≡_ {A = Frame} (record { left = getD ls j nan; right = getD rs j nan }) (stretchOf r (n + j))
 
 -- ---- the plate's part
 

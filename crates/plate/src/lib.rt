@@ -15,12 +15,12 @@ ghost use Prim.Native.Nat.{_+_, _<_, _≤_};
 ghost use lib.ListN.{length};
 ghost use Rattle.stream.specs.declared.Frame.{Frame};
 ghost use Rattle.casts.specs.Arithmetic.{_⊗_};
-ghost use Rattle.eight.specs.Each.{each, eightOf, listed};
+ghost use Rattle.eight.specs.Each.{each, eightOf, listed, Laid};
 ghost use Rattle.stage.specs.Stage.{ran, outs};
 ghost use Rattle.allpass.specs.Allpass.{gave, stretchedAt};
 ghost use Rattle.rate.specs.Plate.{InputUsable, HalfUsable, TapsUsable, PlateUsable};
 ghost use Rattle.plate.specs.Machine.{turnOf, stretchOf};
-ghost use Rattle.plate.specs.Plate.{Stretched, inputOn, halfIn, halfFrom, leavingOn, tapsOn, tankIn, fedOn, halvesOn, returnedOn, tankOn, plateOn, plateStepOn, freshOn, quietOf, atRestOn, partOf};
+ghost use Rattle.plate.specs.Plate.{inputOn, halfIn, halfFrom, leavingOn, tapsOn, tankIn, fedOn, halvesOn, returnedOn, tankOn, plateOn, plateStepOn, freshOn, quietOf, atRestOn, partOf};
 
 const INPUT_DIFFUSION_1: f64 = 0.75;
 
@@ -32,8 +32,6 @@ const DECAY_DIFFUSION_1: f64 = -0.70;
 const TAP_GAIN: f64 = 0.6;
 
 const LFO_HZ: f64 = 1.0;
-
-const TAU: f64 = 6.28318530717958647692528676655900577;
 
 // The halves' dampings.
 pub struct Tank {
@@ -137,7 +135,7 @@ fn turn(sr: u32, n: u64) -> f64
     ensures { λ r. ⌜ r ≡ turnOf sr n ⌝ }
 {
     let t = LFO_HZ * std::num::nearest_u64_to_f64(n) / (sr as f64);
-    TAU * (t - std::num::nearest_u64_to_f64(casts::whole_part(t)))
+    elementary::TAU * (t - std::num::nearest_u64_to_f64(casts::whole_part(t)))
 }
 
 // How far each half's first lattice stretches: a quadrature pair.
@@ -194,7 +192,8 @@ fn scaled(k: f64, x: Eight) -> [f64; 8]
 // The stretches of the count frames from n on, by eight angles at once. A frame alone is cheaper by the plain functions.
 fn lfo(rate: PlateRate, n: u64, count: usize) -> Stretches
     requires { ⌜ (n ≤ 4294967296) × (count ≤ 8) ⌝ }
-    ensures { λ r. ⌜ Stretched rate n count (r .left) (r .right) ⌝ }
+    ensures left { λ r. ⌜ Laid count (λ j. stretchOf rate (n + j) .left) (r .left) ⌝ }
+    ensures right { λ r. ⌜ Laid count (λ j. stretchOf rate (n + j) .right) (r .right) ⌝ }
 {
     if count < 2 {
         let one = stretch(rate, n);

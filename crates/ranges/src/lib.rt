@@ -6,7 +6,7 @@ ghost use Prim.Native.Nat.{_≤_};
 ghost use Rattle.ranges.specs.Ranges.{inRange, allInRange, risingFrom};
 
 // The last position.
-const LAST: u64 = 4294967296;
+pub const LAST: u64 = 4294967296;
 
 // 1 where a test fails.
 fn failing(passes: bool) -> u64

@@ -24,9 +24,6 @@ use strip::Setup;
 use strip::Strip;
 use tape::TapeSetup;
 
-// The last position.
-const LAST: u64 = 4294967296;
-
 // ---- 1
 
 pub fn long_enough(rate: Rate, store: &[f64], counts: &[u64]) -> bool
@@ -237,10 +234,10 @@ pub fn open_refusal(
 fn ok_ramp(ramp: Ramp) -> bool
     ensures { λ r. ⌜ r ≡ okRamp ramp ⌝ }
 {
-    if LAST < ramp.start {
+    if ranges::LAST < ramp.start {
         return false;
     }
-    ramp.len <= LAST
+    ramp.len <= ranges::LAST
 }
 
 // The kept points, which a strip holds few enough of.
@@ -288,7 +285,7 @@ fn strip_formed(strip: Strip) -> bool
     let daylight = strip.daylight;
     let rain = strip.rain;
     let setup = strip.setup;
-    if LAST < strip.position {
+    if ranges::LAST < strip.position {
         return false;
     }
     if !ok_ramp(daylight) {
@@ -356,10 +353,10 @@ fn ok_outputs(samples: usize, frames: usize, gains: usize) -> bool
 fn ok_end(position: u64, samples: usize) -> bool
     ensures { λ r. ⌜ r ≡ okEnd position samples ⌝ }
 {
-    if LAST < position {
+    if ranges::LAST < position {
         return false;
     }
-    samples as u64 <= LAST - position
+    samples as u64 <= ranges::LAST - position
 }
 
 fn ok_samples(samples: &[f64]) -> bool
@@ -393,10 +390,10 @@ fn ok_controls(controls: Controls) -> bool
     if !ok_unit_f32(controls.rain) {
         return false;
     }
-    if LAST < controls.grading {
+    if ranges::LAST < controls.grading {
         return false;
     }
-    controls.darkening <= LAST
+    controls.darkening <= ranges::LAST
 }
 
 // 8, or 0.

@@ -17,9 +17,6 @@ pub struct Gains {
     pub after: f64,
 }
 
-// Above all that is since a kick.
-const LAST: u64 = 4294967296;
-
 fn short(n: u64) -> f64
     requires { ⌜ n < 4294967296 ⌝ }
     ensures { λ r. ⌜ r ≡ whole n ⌝ }
@@ -31,7 +28,7 @@ fn short(n: u64) -> f64
 fn counted(n: u64) -> f64
     ensures { λ r. ⌜ r ≡ whole n ⌝ }
 {
-    if n < LAST {
+    if n < 4294967296 {
         return short(n);
     }
     std::num::nearest_u64_to_f64(n)

@@ -35,21 +35,21 @@ module _ (r : TapeRate) (tone : Tone) (daylight : Ramp) (positions : List ℕ) (
   tuned-some = elim (decLt n (t .until)) [ yes h ↦ rw (lt-ltb n (t .until) h) h | no h ↦ rw (le-ltb n (t .until) (omega arith)) afresh-some ]
 
   -- a tuning leaves the rest of the lane as it is
-  pub tuned-equalizer : tunedAt r tone daylight positions values n t .equalizer ≡ t .equalizer
-  unfolding tunedAt tunedAfresh
-  tuned-equalizer = by (ltb n (t .until))
+  tuned-leaves : {A : Type 0} (field : Tape → A) → field (tunedAfresh r tone daylight positions values n t) ≡ field t → field (tunedAt r tone daylight positions values n t) ≡ field t
+  unfolding tunedAt
+  tuned-leaves field e = by (ltb n (t .until))
     where
-      by : (b : Bool) → (cond b t (tunedAfresh r tone daylight positions values n t)) .equalizer ≡ t .equalizer
+      by : (b : Bool) → field (cond b t (tunedAfresh r tone daylight positions values n t)) ≡ field t
       by true = refl
-      by false = refl
+      by false = e
+
+  pub tuned-equalizer : tunedAt r tone daylight positions values n t .equalizer ≡ t .equalizer
+  unfolding tunedAfresh
+  tuned-equalizer = tuned-leaves (λ (u : Tape). u .equalizer) refl
 
   pub tuned-duck : tunedAt r tone daylight positions values n t .duck ≡ t .duck
-  unfolding tunedAt tunedAfresh
-  tuned-duck = by (ltb n (t .until))
-    where
-      by : (b : Bool) → (cond b t (tunedAfresh r tone daylight positions values n t)) .duck ≡ t .duck
-      by true = refl
-      by false = refl
+  unfolding tunedAfresh
+  tuned-duck = tuned-leaves (λ (u : Tape). u .duck) refl
 
 module _ (r : TapeRate) (s : TapeSetup) (daylight rain : Ramp) (l : Lists) (d : Bool) (n : ℕ) (t : TapeIn) where
   abbrev each : Stage TapeIn Float Float

@@ -64,8 +64,6 @@ pub struct Equalized {
 
 const HEAD_BUMP_MIX: f32 = 0.35;
 
-const TILT_LIFT: f32 = 0.8;
-
 // The saturation, TANH(drive) being in hand.
 fn saturate_over(drive: f64, top: f64, x: f64) -> f64
     ensures { λ r. ⌜ r ≡ saturatedOver drive top x ⌝ }
@@ -80,7 +78,7 @@ fn lift(darkened: bool, rain: Ramp, n: u64) -> f64
     if darkened {
         return onepole::lift(rain.at(n));
     }
-    casts::widen(TILT_LIFT)
+    casts::widen(onepole::TILT_LIFT)
 }
 
 // ---- one sample of each pass

@@ -1,9 +1,10 @@
 use native.Mathlib.Omega.{arith}
 use borrow.Author.Needs.{needs}
-use Prim.Native.Nat.{_-_}
+use Prim.Native.Nat.{_+_, _-_, _<_}
 use lib.ListN.{length}
 use Rattle.allpass.specs.Allpass.{gave}
 use Rattle.plate.specs.Plate.{plateOn}
+use Rattle.plate.proofs.Swing.{both-sides}
 use Rattle.plate.proofs.Turns.{Plating, plate-start, plate-turn, plate-done}
 use Rattle.plate.proofs.group.Statement.{statement}
 use Rattle.plate.proofs.group.Tie as tie
@@ -42,8 +43,8 @@ add-step : tie.Need-add-step Inv-loop μ-loop
 add-step c = search needs
 
 step-requires : tie.Need-step-requires Inv-loop μ-loop
-step-requires c κs = let s = c .before .before .before .before .before .before .before .before .before .before in let l = c .before .before .before .loop in
-    (s .pre .0, (c .before .before .before .before .before .before .lfo .ensures (l .i) (omega (arith, c .before .before .loop-test .taken, l .inv .ahead .sized)), search needs))
+step-requires c κs = let s = c .before .before .before .before .before .before .before .before .before .before in let l = c .before .before .before .loop in let e = c .before .before .before .before .before .before .lfo .ensures in let h : l .i < length (s .args .left .now) = omega (arith, c .before .before .loop-test .taken, l .inv .ahead .sized) in
+    (s .pre .0, (both-sides (s .args .rate) (s .args .n + l .i) _ _ (e .0 (l .i) h) (e .1 (l .i) h), search needs))
 
 mul-left : tie.Need-mul-left Inv-loop μ-loop
 mul-left c = omega (arith, c .before .before .before .before .before .before .loop-test .taken, c .before .before .before .before .before .before .before .loop .inv .ahead .sized, c .before .before .before .before .before .before .before .loop .inv .sized, c .before .before .before .before .before .before .before .before .before .before .before .before .before .before .pre .1 .0)
