@@ -68,5 +68,8 @@ module _ (r : Rate) (l : List Float) (u : List ℕ) (room : valuesAt r ≤ lengt
 pub mid-put : {X : Type 0} (k : ℕ) (xs ys : List X) → length ys ≡ k → midOf 0 k (putMid 0 k xs ys) ≡ ys
 mid-put k xs ys e = lib.Seq.take-at ys (drop k xs) k e
 
+pub back : {X : Type 0} (k : ℕ) (xs ys : List X) → length ys ≡ length (midOf 0 k xs) → length (putMid 0 k xs ys) ≡ length xs
+back k xs ys e = borrow.Rule.Slice.PartMut.same-len-mid 0 k xs ys e
+
 pub room : {X : Type 0} (k j : ℕ) (xs ys : List X) → length ys ≡ length (midOf 0 k xs) → j ≤ length xs → j ≤ length (putMid 0 k xs ys)
-room k j xs ys e h = rw (borrow.Rule.Slice.PartMut.same-len-mid 0 k xs ys e) h
+room k j xs ys e h = rw (back k xs ys e) h

@@ -148,45 +148,6 @@ fn stages(
     }
 }
 
-// From samples to frames, by way of three arrays.
-fn block(
-    rate: Rate,
-    strip: Strip,
-    tape: Tape,
-    samples: &[f64],
-    drums: bool,
-    frames: &mut [f32],
-    gains: &mut [u64],
-    store: &mut [f64],
-    counts: &mut [u64],
-) -> Strip
-    requires { ⌜ RateUsable rate ⌝ }
-    requires { ⌜ Runs rate (state strip (now store) (now counts)) ⌝ }
-    requires { ⌜ tape ≡ tunedOf rate (state strip (now store) (now counts)) ⌝ }
-    requires { ⌜ Piecewise rate (state strip (now store) (now counts)) (length (now samples)) ⌝ }
-    requires { ⌜ (length (now samples) ≤ 32) × (length (now frames) ≡ 2 * length (now samples)) × (length (now gains) ≡ length (now samples)) ⌝ }
-    ensures { λ r. ⌜ ranAll r (now (store .exit)) (now (counts .exit)) (now (frames .exit)) (now (gains .exit)) ≡ allRan rate drums (state strip (now (store .entry)) (now (counts .entry))) (now (samples .entry)) ⌝ }
-{
-    let k = samples.len();
-    let mut dry = [0.0f64; BLOCK];
-    let mut left = [0.0f64; BLOCK];
-    let mut right = [0.0f64; BLOCK];
-    copy(samples, &mut dry[0..k]);
-    stages(
-        rate,
-        strip,
-        tape,
-        drums,
-        &mut dry[0..k],
-        &mut left[0..k],
-        &mut right[0..k],
-        frames,
-        gains,
-        store,
-        counts,
-    )
-}
-
 fn copy(samples: &[f64], block: &mut [f64])
     requires { ⌜ length (now block) ≡ length (now samples) ⌝ }
     ensures { λ _. ⌜ now (block .exit) ≡ now (samples .entry) ⌝ }
@@ -261,19 +222,26 @@ pub fn go(
     ensures { λ r. ⌜ ranAll r (now (store .exit)) (now (counts .exit)) (now (frames .exit)) (now (gains .exit)) ≡ allRan (rateOf 44100) drums (state strip (now (store .entry)) (now (counts .entry))) (now (samples .entry)) ⌝ }
 {
     let rate = Rate::cd();
+    let mut dry = [0.0f64; BLOCK];
+    let mut left = [0.0f64; BLOCK];
+    let mut right = [0.0f64; BLOCK];
     let mut strip = strip;
     let mut i: usize = 0;
     while i < samples.len() {
         let tape = tuned(rate, strip, store, counts);
-        let e = i + block_len(tape.until, strip.position, samples.len() - i);
+        let k = block_len(tape.until, strip.position, samples.len() - i);
+        let e = i + k;
         let from = 2 * i;
         let to = 2 * e;
-        strip = block(
+        copy(&samples[i..e], &mut dry[0..k]);
+        strip = stages(
             rate,
             strip,
             tape,
-            &samples[i..e],
             drums,
+            &mut dry[0..k],
+            &mut left[0..k],
+            &mut right[0..k],
             &mut frames[from..to],
             &mut gains[i..e],
             store,
