@@ -30,7 +30,7 @@ part-tape-block-start : tie.Need-part-tape-block-start
 part-tape-block-start c = search needs
 
 part-tape-block-end : tie.Need-part-tape-block-end
-part-tape-block-end c = let s = c .before .before .before .before .before .before .before .before .before .before .before .before .before in omega (arith, c .before .before .before .plate-at .ensures, c .before .before .ceiling-at .ensures, c .before .values-at .ensures, c .positions-at .ensures, s .pre .1 .0 .long, s .pre .1 .0 .wide, s .pre .0 .samples, s .pre .0 .counts)
+part-tape-block-end c = let s = c .before .before .before .before .before .before .before .before .before .before .before .before .before in omega (arith, c .before .before .before .plate-at .ensures, s .pre .1 .0 .long, s .pre .0 .samples)
 
 sub-tape-block-2 : tie.Need-sub-tape-block-2
 sub-tape-block-2 c = search needs
@@ -39,7 +39,7 @@ part-tape-block-start-2 : tie.Need-part-tape-block-start-2
 part-tape-block-start-2 c = search needs
 
 part-tape-block-end-2 : tie.Need-part-tape-block-end-2
-part-tape-block-end-2 c = let s = c .before .before .before .before .before .before .before .before .before .before .before .before .before .before in omega (arith, c .before .before .before .before .plate-at .ensures, c .before .before .before .ceiling-at .ensures, c .before .before .values-at .ensures, c .before .positions-at .ensures, s .pre .1 .0 .long, s .pre .1 .0 .wide, s .pre .0 .samples, s .pre .0 .counts)
+part-tape-block-end-2 c = let s = c .before .before .before .before .before .before .before .before .before .before .before .before .before .before in omega (arith, s .pre .1 .0 .wide, s .pre .0 .counts)
 
 tape-block-requires : tie.Need-tape-block-requires
 tape-block-requires c κs = let s = c .before .before .before .before .before .before .before .before .before .before .before .before .before .before .before .before in
@@ -48,7 +48,7 @@ tape-block-requires c κs = let s = c .before .before .before .before .before .b
     (warp-fits (s .args .rate) (s .pre .0) (s .args .store .now) _ (c .before .before .before .before .before .before .plate-at .ensures) (omega (arith, runs .long, s .pre .0 .samples)), (rw (s .pre .1 .1 .0, tuned-duck (s .args .rate .tape) (s .args .strip .setup .tape .tone) (s .args .strip .daylight) (lists .positions) (lists .values) (s .args .strip .position) (s .args .strip .tape)) (runs .ducks), s .pre .1 .1 .1 .0 .before))
 
 mul-mix : tie.Need-mul-mix
-mul-mix c = let s = c .before .before .before .before .before .before .before .before .before .before .before .before .before .before .before .before .before .before .before .before .before .before .before in omega (arith, c .before .before .before .before .before .before .before .before .before .before .before .before .before .plate-at .ensures, c .before .before .before .before .before .before .before .before .before .before .before .before .ceiling-at .ensures, c .before .before .before .before .before .before .before .before .before .before .before .values-at .ensures, c .before .before .before .before .before .before .before .before .before .before .positions-at .ensures, s .pre .1 .0 .long, s .pre .1 .0 .wide, s .pre .0 .samples, s .pre .0 .counts, s .good .1 .1 .1 .1 .1 .1 .1 .1 .1 .0 .1)
+mul-mix c = let s = c .before .before .before .before .before .before .before .before .before .before .before .before .before .before .before .before .before .before .before .before .before .before .before in omega (arith, c .before .before .before .before .before .before .before .before .before .before .before .before .before .plate-at .ensures, s .pre .1 .0 .long, s .pre .0 .samples, s .good .1 .1 .1 .1 .1 .1 .1 .1 .1 .0 .1)
 
 sub-mix : tie.Need-sub-mix
 sub-mix c = search needs
@@ -57,34 +57,34 @@ part-mix-start : tie.Need-part-mix-start
 part-mix-start c = search needs
 
 part-mix-end : tie.Need-part-mix-end
-part-mix-end c = let s = c .before .before .before .before .before .before .before .before .before .before .before .before .before .before .before .before .before .before .before .before .before .before .before in omega (arith, c .before .before .before .before .before .before .before .before .before .before .before .before .before .plate-at .ensures, c .before .before .before .before .before .before .before .before .before .before .before .before .ceiling-at .ensures, c .before .before .before .before .before .before .before .before .before .before .before .values-at .ensures, c .before .before .before .before .before .before .before .before .before .before .positions-at .ensures, s .pre .1 .0 .long, s .pre .1 .0 .wide, s .pre .0 .samples, s .pre .0 .counts, c .before .before .before .before .before .store .given .1)
+part-mix-end c = let s = c .before .before .before .before .before .before .before .before .before .before .before .before .before .before .before .before .before .before .before .before .before .before .before in omega (arith, c .before .before .before .before .before .before .before .before .before .before .before .before .ceiling-at .ensures, s .pre .1 .0 .long, s .pre .0 .samples, c .before .before .before .before .before .store .given .1)
 
 mix-requires : tie.Need-mix-requires
 mix-requires c κs = let s = c .before .before .before .before .before .before .before .before .before .before .before .before .before .before .before .before .before .before .before .before .before .before .before .before .before .before .before in
     let o = s .pre .1 .1 .1 .1 in
     let d = c .before .before .before .before .before .before .before .before .before .before .tape-block .kept .1 .1 .1 .1 .1 .1 .0 in
-    (s .pre .0 .plate, ((omega (arith, c .before .before .before .before .before .before .before .before .before .before .before .before .before .before .before .before .before .plate-at .ensures, c .before .before .before .before .before .before .before .before .before .before .before .before .before .before .before .before .ceiling-at .ensures, c .before .before .before .before .before .before .before .before .before .before .before .before .before .before .before .values-at .ensures, c .before .before .before .before .before .before .before .before .before .before .before .before .before .before .positions-at .ensures, s .pre .1 .0 .long, s .pre .1 .0 .wide, s .pre .0 .samples, s .pre .0 .counts, c .before .before .before .mix-arg .given .2), omega (arith, d, s .pre .1 .1 .1 .0 .before)), (omega (arith, d, o .left), omega (arith, d, o .right))))
+    (s .pre .0 .plate, ((omega (arith, c .before .before .before .before .before .before .before .before .before .before .before .before .before .before .before .before .before .plate-at .ensures, c .before .before .before .before .before .before .before .before .before .before .before .before .before .before .before .before .ceiling-at .ensures, c .before .before .before .mix-arg .given .2), omega (arith, d, s .pre .1 .1 .1 .0 .before)), (omega (arith, d, o .left), omega (arith, d, o .right))))
 
 mul-block : tie.Need-mul-block
-mul-block c = let s = c .before .before .before .before .before .before .before .before .before .before .before .before .before .before .before .before .before .before .before .before .before .before .before .before .before .before .before .before .before .before .before .before .before .before in omega (arith, c .before .before .before .before .before .before .before .before .before .before .before .before .before .before .before .before .before .before .before .before .before .before .before .before .plate-at .ensures, c .before .before .before .before .before .before .before .before .before .before .before .before .before .before .before .before .before .before .before .before .before .before .before .ceiling-at .ensures, c .before .before .before .before .before .before .before .before .before .before .before .before .before .before .before .before .before .before .before .before .before .before .values-at .ensures, c .before .before .before .before .before .before .before .before .before .before .before .before .before .before .before .before .before .before .before .before .before .positions-at .ensures, s .pre .1 .0 .long, s .pre .1 .0 .wide, s .pre .0 .samples, s .pre .0 .counts, s .good .1 .1 .1 .1 .1 .1 .1 .1 .1 .0 .1)
+mul-block c = let s = c .before .before .before .before .before .before .before .before .before .before .before .before .before .before .before .before .before .before .before .before .before .before .before .before .before .before .before .before .before .before .before .before .before .before in omega (arith, c .before .before .before .before .before .before .before .before .before .before .before .before .before .before .before .before .before .before .before .before .before .before .before .ceiling-at .ensures, s .pre .1 .0 .long, s .pre .0 .samples, s .good .1 .1 .1 .1 .1 .1 .1 .1 .1 .0 .1)
 
 sub-block : tie.Need-sub-block
-sub-block c = let s = c .before .before .before .before .before .before .before .before .before .before .before .before .before .before .before .before .before .before .before .before .before .before .before .before .before .before .before .before .before .before .before .before .before .before in omega (arith, c .before .before .before .before .before .before .before .before .before .before .before .before .before .before .before .before .before .before .before .before .before .before .before .before .plate-at .ensures, c .before .before .before .before .before .before .before .before .before .before .before .before .before .before .before .before .before .before .before .before .before .before .before .ceiling-at .ensures, c .before .before .before .before .before .before .before .before .before .before .before .before .before .before .before .before .before .before .before .before .before .before .values-at .ensures, c .before .before .before .before .before .before .before .before .before .before .before .before .before .before .before .before .before .before .before .before .before .positions-at .ensures, s .pre .1 .0 .long, s .pre .1 .0 .wide, s .pre .0 .samples, s .pre .0 .counts)
+sub-block c = omega (arith, c .before .before .before .before .before .before .before .before .before .before .before .before .before .before .before .before .before .before .before .before .before .before .before .ceiling-at .ensures, c .before .before .before .before .before .before .before .before .before .before .before .before .before .before .before .before .before .before .before .before .before .before .values-at .ensures)
 
 part-block-start : tie.Need-part-block-start
-part-block-start c = let s = c .before .before .before .before .before .before .before .before .before .before .before .before .before .before .before .before .before .before .before .before .before .before .before .before .before .before .before .before .before .before .before .before .before .before in omega (arith, c .before .before .before .before .before .before .before .before .before .before .before .before .before .before .before .before .before .before .before .before .before .before .before .before .plate-at .ensures, c .before .before .before .before .before .before .before .before .before .before .before .before .before .before .before .before .before .before .before .before .before .before .before .ceiling-at .ensures, c .before .before .before .before .before .before .before .before .before .before .before .before .before .before .before .before .before .before .before .before .before .before .values-at .ensures, c .before .before .before .before .before .before .before .before .before .before .before .before .before .before .before .before .before .before .before .before .before .positions-at .ensures, s .pre .1 .0 .long, s .pre .1 .0 .wide, s .pre .0 .samples, s .pre .0 .counts)
+part-block-start c = omega (arith, c .before .before .before .before .before .before .before .before .before .before .before .before .before .before .before .before .before .before .before .before .before .before .before .ceiling-at .ensures, c .before .before .before .before .before .before .before .before .before .before .before .before .before .before .before .before .before .before .before .before .before .before .values-at .ensures)
 
 part-block-end : tie.Need-part-block-end
-part-block-end c = let s = c .before .before .before .before .before .before .before .before .before .before .before .before .before .before .before .before .before .before .before .before .before .before .before .before .before .before .before .before .before .before .before .before .before .before in omega (arith, c .before .before .before .before .before .before .before .before .before .before .before .before .before .before .before .before .before .before .before .before .before .before .before .before .plate-at .ensures, c .before .before .before .before .before .before .before .before .before .before .before .before .before .before .before .before .before .before .before .before .before .before .before .ceiling-at .ensures, c .before .before .before .before .before .before .before .before .before .before .before .before .before .before .before .before .before .before .before .before .before .before .values-at .ensures, c .before .before .before .before .before .before .before .before .before .before .before .before .before .before .before .before .before .before .before .before .before .positions-at .ensures, s .pre .1 .0 .long, s .pre .1 .0 .wide, s .pre .0 .samples, s .pre .0 .counts, c .before .before .before .before .before .before .before .before .before .before .before .before .before .before .before .before .store .given .1, c .before .before .before .before .before .store2 .given .1)
+part-block-end c = let s = c .before .before .before .before .before .before .before .before .before .before .before .before .before .before .before .before .before .before .before .before .before .before .before .before .before .before .before .before .before .before .before .before .before .before in omega (arith, c .before .before .before .before .before .before .before .before .before .before .before .before .before .before .before .before .before .before .before .before .before .before .values-at .ensures, s .pre .1 .0 .long, s .pre .0 .samples, c .before .before .before .before .before .before .before .before .before .before .before .before .before .before .before .before .store .given .1, c .before .before .before .before .before .store2 .given .1)
 
 sub-block-2 : tie.Need-sub-block-2
-sub-block-2 c = let s = c .before .before .before .before .before .before .before .before .before .before .before .before .before .before .before .before .before .before .before .before .before .before .before .before .before .before .before .before .before .before .before .before .before .before .before in omega (arith, c .before .before .before .before .before .before .before .before .before .before .before .before .before .before .before .before .before .before .before .before .before .before .before .before .before .plate-at .ensures, c .before .before .before .before .before .before .before .before .before .before .before .before .before .before .before .before .before .before .before .before .before .before .before .before .ceiling-at .ensures, c .before .before .before .before .before .before .before .before .before .before .before .before .before .before .before .before .before .before .before .before .before .before .before .values-at .ensures, c .before .before .before .before .before .before .before .before .before .before .before .before .before .before .before .before .before .before .before .before .before .before .positions-at .ensures, s .pre .1 .0 .long, s .pre .1 .0 .wide, s .pre .0 .samples, s .pre .0 .counts)
+sub-block-2 c = omega (arith, c .before .before .before .before .before .before .before .before .before .before .before .before .before .before .before .before .before .before .before .before .before .before .positions-at .ensures)
 
 part-block-start-2 : tie.Need-part-block-start-2
-part-block-start-2 c = let s = c .before .before .before .before .before .before .before .before .before .before .before .before .before .before .before .before .before .before .before .before .before .before .before .before .before .before .before .before .before .before .before .before .before .before .before in omega (arith, c .before .before .before .before .before .before .before .before .before .before .before .before .before .before .before .before .before .before .before .before .before .before .before .before .before .plate-at .ensures, c .before .before .before .before .before .before .before .before .before .before .before .before .before .before .before .before .before .before .before .before .before .before .before .before .ceiling-at .ensures, c .before .before .before .before .before .before .before .before .before .before .before .before .before .before .before .before .before .before .before .before .before .before .before .values-at .ensures, c .before .before .before .before .before .before .before .before .before .before .before .before .before .before .before .before .before .before .before .before .before .before .positions-at .ensures, s .pre .1 .0 .long, s .pre .1 .0 .wide, s .pre .0 .samples, s .pre .0 .counts)
+part-block-start-2 c = omega (arith, c .before .before .before .before .before .before .before .before .before .before .before .before .before .before .before .before .before .before .before .before .before .before .positions-at .ensures)
 
 part-block-end-2 : tie.Need-part-block-end-2
-part-block-end-2 c = let s = c .before .before .before .before .before .before .before .before .before .before .before .before .before .before .before .before .before .before .before .before .before .before .before .before .before .before .before .before .before .before .before .before .before .before .before in omega (arith, c .before .before .before .before .before .before .before .before .before .before .before .before .before .before .before .before .before .before .before .before .before .before .before .before .before .plate-at .ensures, c .before .before .before .before .before .before .before .before .before .before .before .before .before .before .before .before .before .before .before .before .before .before .before .before .ceiling-at .ensures, c .before .before .before .before .before .before .before .before .before .before .before .before .before .before .before .before .before .before .before .before .before .before .before .values-at .ensures, c .before .before .before .before .before .before .before .before .before .before .before .before .before .before .before .before .before .before .before .before .before .before .positions-at .ensures, s .pre .1 .0 .long, s .pre .1 .0 .wide, s .pre .0 .samples, s .pre .0 .counts, c .before .before .before .before .before .before .before .before .before .before .before .before .before .before .before .counts .given .1)
+part-block-end-2 c = let s = c .before .before .before .before .before .before .before .before .before .before .before .before .before .before .before .before .before .before .before .before .before .before .before .before .before .before .before .before .before .before .before .before .before .before .before in omega (arith, c .before .before .before .before .before .before .before .before .before .before .before .before .before .before .before .before .before .before .before .before .before .before .positions-at .ensures, s .pre .1 .0 .wide, s .pre .0 .counts, c .before .before .before .before .before .before .before .before .before .before .before .before .before .before .before .counts .given .1)
 
 block-requires : tie.Need-block-requires
 block-requires c κs = let s = c .before .before .before .before .before .before .before .before .before .before .before .before .before .before .before .before .before .before .before .before .before .before .before .before .before .before .before .before .before .before .before .before .before .before .before .before .before .before .before .before in
