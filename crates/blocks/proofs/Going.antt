@@ -202,11 +202,12 @@ module _ (r : Rate) (u : RateUsable r) (d : Bool) (st₀ : State) (xs : List Flo
         runs = g;
       }
 
-  pub go-turn : (st : State) (fs : List Float) (gs : List ℕ) (i e : ℕ) (o : RanAll) → Going r d st₀ xs st fs gs i → i ≤ e → e ≤ length xs → o ≡ allRan r d st (take (e - i) (drop i xs))
+  pub go-turn : (st : State) (fs : List Float) (gs : List ℕ) (i e : ℕ) (o : RanAll) (ys : List Float) → Going r d st₀ xs st fs gs i → i ≤ e → e ≤ length xs → ys ≡ take (e - i) (drop i xs) → o ≡ allRan r d st ys
       → Going r d st₀ xs (o .end) (putMid (2 * i) (2 * e - 2 * i) fs (o .frames)) (putMid i (e - i) gs (o .gains)) e
-  go-turn st fs gs i e o p h k q =
+  go-turn st fs gs i e o ys p h k y t =
       let n = st₀ .strip .position in
       let part = take (e - i) (drop i xs) in
+      let q : o ≡ allRan r d st part = t ∙ ap (allRan r d st) y in
       let at : st .strip .position ≡ n + i = p .place in
       let q₁ : o .end ≡ ran (stepOn r d) (n + i) st part = ap (λ (t : RanAll). t .end) q ∙ ap (λ (m : ℕ). ran (stepOn r d) m st part) at in
       let w : outs (stepOn r d) (n + i) st part ≡ take (e - i) (drop i heard) = gone-outs (stepOn r d) n st₀ xs st i e (p .gone) h k in

@@ -65,11 +65,11 @@ module _ (r : Rate) (l : List Float) (u : List ℕ) (room : valuesAt r ≤ lengt
   ceiling-well k t = rw (third-lent, gains-lent) t
 
 -- the front of an array that was lent and has come back
-pub mid-put : {X : Type 0} (k : ℕ) (xs ys : List X) → length ys ≡ k → midOf 0 k (putMid 0 k xs ys) ≡ ys
-mid-put k xs ys e = lib.Seq.take-at ys (drop k xs) k e
+pub mid-put : {X : Type 0} (k : ℕ) (xs ys zs : List X) → length ys ≡ length (midOf 0 k xs) → length (midOf 0 k xs) ≡ k → ys ≡ zs → midOf 0 k (putMid 0 k xs ys) ≡ zs
+mid-put k xs ys zs e f g = lib.Seq.take-at ys (drop k xs) k (e ∙ f) ∙ g
 
-pub back : {X : Type 0} (k : ℕ) (xs ys : List X) → length ys ≡ length (midOf 0 k xs) → length (putMid 0 k xs ys) ≡ length xs
-back k xs ys e = borrow.Rule.Slice.PartMut.same-len-mid 0 k xs ys e
+pub back : {X : Type 0} (k n : ℕ) (xs ys : List X) → length ys ≡ length (midOf 0 k xs) → length xs ≡ n → length (putMid 0 k xs ys) ≡ n
+back k n xs ys e h = borrow.Rule.Slice.PartMut.same-len-mid 0 k xs ys e ∙ h
 
 pub room : {X : Type 0} (k j : ℕ) (xs ys : List X) → length ys ≡ length (midOf 0 k xs) → j ≤ length xs → j ≤ length (putMid 0 k xs ys)
-room k j xs ys e h = rw (back k xs ys e) h
+room k j xs ys e h = rw (back k (length xs) xs ys e refl) h

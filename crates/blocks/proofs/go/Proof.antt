@@ -1,14 +1,13 @@
 use borrow.Author.Needs.{needs}
-use borrow.Rule.Slice.PartMut.{putMid}
 use native.Mathlib.Omega.{arith}
-use mathlib.Core.Path.{_≡_, refl, sym, ap, _∙_}
+use mathlib.Core.Path.{_≡_, refl, sym, _∙_}
 use Prim.Native.Nat.{_-_, _*_}
 use lib.ListN.{length}
 use Rattle.rate.specs.Rate.{RateUsable}
 use Rattle.rate.proofs.Rates.{usable-44100}
 use Rattle.tape.proofs.Lasting.{tuned-some}
 use Rattle.strip.specs.Calls.{state, listsIn}
-use Rattle.blocks.specs.Run.{Runs, allRan}
+use Rattle.blocks.specs.Run.{Runs}
 use Rattle.blocks.proofs.Rooms.{mid-put, room, back}
 use Rattle.blocks.proofs.Going.{Going, go-start, go-turn, go-done}
 use Rattle.blocks.proofs.go.Statement.{statement}
@@ -175,20 +174,18 @@ loop-again c =
     let w = c .before .before .before .before .before .before .before .before .before .before .before .stages in
     let n = c .before .before .before .before .before .before .before .before .before .before .before .before .before .before .before .before .before .before .before .before .before .before .before .block-len in
     let k = c .before .before .before .before .before .before .before .before .before .before .before .before .before .before .before .before .before .before .before .before .copy in
-    let m = c .before .before .before .before .before .before .before .before .before .before .before .before .before .before .before .before .before .before .before .before .before .before .before .block-len in
     let h = c .before .before .before .before .before .before .before .before .before .before .before .before .before .before .before .before .before .before .before .before .before .before .before .before .before .before .before .loop-test .taken in
-    let u : RateUsable (r .result) = rw (r .ensures) usable-44100 in
-    let given = mid-put (n .result - 0) (l .dry) (k .last .1 .0) (c .before .before .before .before .before .before .before .before .before .before .before .before .before .before .before .before .before .before .before .dry2 .given ∙ c .before .before .before .before .before .before .before .before .before .before .before .before .before .before .before .before .before .before .before .before .before .dry .given .2) ∙ k .ensures in (
-      go-turn (r .result) u (s .args .drums) (state (s .args .strip) (s .args .store .now) (s .args .counts .now)) (s .args .samples .now) (state (l .strip) (l .store) (l .counts)) (l .frames) (l .gains) (l .i) _ _ (l .inv .0)
-          (omega arith) (omega (arith, n .ensures .2, h)) (w .ensures ∙ ap (allRan (r .result) (s .args .drums) (state (l .strip) (l .store) (l .counts))) given),
+    let u : RateUsable (r .result) = rw (r .ensures) usable-44100 in (
+      go-turn (r .result) u (s .args .drums) (state (s .args .strip) (s .args .store .now) (s .args .counts .now)) (s .args .samples .now) (state (l .strip) (l .store) (l .counts)) (l .frames) (l .gains) (l .i) _ _ _ (l .inv .0)
+          (omega arith) (omega (arith, n .ensures .2, h)) (mid-put (n .result - 0) (l .dry) (k .last .1 .0) _ (c .before .before .before .before .before .before .before .before .before .before .before .before .before .before .before .before .before .before .before .dry2 .given) (c .before .before .before .before .before .before .before .before .before .before .before .before .before .before .before .before .before .before .before .before .before .dry .given .2) (k .ensures)) (w .ensures),
       (
         c .before .before .before .before .before .before .before .frames .given .1 ∙ l .inv .1 .0,
         c .before .before .before .before .before .gains .given .1 ∙ l .inv .1 .1,
         w .kept .1 .1 .1 .1 .1 .1 .1 .1 .1 .0 ∙ l .inv .1 .2,
         w .kept .1 .1 .1 .1 .1 .1 .1 .1 .1 .1 .0 ∙ l .inv .1 .3,
-        back (n .result - 0) (putMid 0 (n .result - 0) (l .dry) (k .last .1 .0)) (w .last .1 .1 .1 .1 .0) (c .before .before .before .before .before .before .before .before .before .before .dry4 .given) ∙ back (n .result - 0) (l .dry) (k .last .1 .0) (c .before .before .before .before .before .before .before .before .before .before .before .before .before .before .before .before .before .before .before .dry2 .given) ∙ l .inv .1 .4,
-        back (n .result - 0) (l .left) (w .last .1 .1 .1 .1 .1 .0) (c .before .before .before .before .before .before .before .before .before .left2 .given) ∙ l .inv .1 .5,
-        back (n .result - 0) (l .right) (w .last .1 .1 .1 .1 .1 .1 .0) (c .before .before .before .before .before .before .before .before .right2 .given) ∙ l .inv .1 .6,
+        back (n .result - 0) 32 _ (w .last .1 .1 .1 .1 .0) (c .before .before .before .before .before .before .before .before .before .before .dry4 .given) (back (n .result - 0) 32 (l .dry) (k .last .1 .0) (c .before .before .before .before .before .before .before .before .before .before .before .before .before .before .before .before .before .before .before .dry2 .given) (l .inv .1 .4)),
+        back (n .result - 0) 32 (l .left) (w .last .1 .1 .1 .1 .1 .0) (c .before .before .before .before .before .before .before .before .before .left2 .given) (l .inv .1 .5),
+        back (n .result - 0) 32 (l .right) (w .last .1 .1 .1 .1 .1 .1 .0) (c .before .before .before .before .before .before .before .before .right2 .given) (l .inv .1 .6),
       ),
     )
 
