@@ -2,8 +2,7 @@
 use mathlib.Core.Path.{_≡_, ap, ap₂, _∙_}
 use Prim.Native.Nat.{ℕ, _+_, _≤_}
 use mathlib.Core.List.{List}
-use lib.ListN.{getD}
-use lib.Ieee.{Float, nan}
+use lib.Ieee.{Float}
 use Rattle.casts.specs.Arithmetic.{_⊗_}
 use Rattle.stream.specs.declared.Frame.{Frame}
 use Rattle.eight.specs.declared.Eight.{Eight}
