@@ -12,12 +12,19 @@ test:
 
 lib: build/libgoqhari.a
 
-# proved again where anything that it is made of is newer; what it stands on first, since rt staticlib proves one crate after the other
-build/lib%.a: crates.txt $(shell find crates -name '*.rt' -o -name '*.antt')
-	rt check $$(sed -n 's/^$*: //p' crates.txt)
-	rt staticlib $*
-	mkdir -p build
-	cp target/staticlib/lib$*.a $@
+# What the libraries stand on, proved again where anything of it is newer: by rt check, since rt staticlib proves one crate after the other.
+target/below: crates.txt $(shell find crates -name '*.rt' -o -name '*.antt')
+	rt check $$(sed -n 's/^goqhari: //p' crates.txt)
+	touch $@
+
+# Each in a root of its own, so that make can build two at a time: two rts in one root write over each other's notes.
+build/lib%.a: target/below
+	rm -rf target/roots/$*
+	mkdir -p target/roots/$*/target build
+	ln -s ../../../crates ../../../crates.txt target/roots/$*
+	cp -a target/rlib target/stamp target/roots/$*/target
+	cd target/roots/$* && rt staticlib $*
+	cp target/roots/$*/target/staticlib/lib$*.a $@
 
 demo: lib
 	bindings/example demo build/demo.wav build/demo.svg

@@ -2,7 +2,7 @@
 // Uses the stages, rate for the places of their parts, and strip for its types and definitions.
 ghost use mathlib.Core.Path.{_≡_};
 ghost use mathlib.Core.List.{map};
-ghost use Prim.Native.Nat.{_+_, _*_, _<_, _≤_};
+ghost use Prim.Native.Nat.{_+_, _-_, _*_, _<_, _≤_, min};
 ghost use lib.ListN.{length};
 ghost use Rattle.casts.specs.Arithmetic.{_⊗_};
 ghost use Rattle.stage.specs.Stage.{ran, outs};
@@ -190,7 +190,7 @@ fn tuned(rate: Rate, strip: Strip, store: &[f64], counts: &[u64]) -> Tape
 }
 
 fn least(a: u64, b: usize) -> usize
-    ensures { λ r. ⌜ (r ≤ a) × (r ≤ b) × (0 < a → 0 < b → 0 < r) ⌝ }
+    ensures { λ r. ⌜ r ≡ min a b ⌝ }
 {
     if a < b as u64 { a as usize } else { b }
 }
@@ -198,7 +198,7 @@ fn least(a: u64, b: usize) -> usize
 // How many of the samples left the next block has: those of one tuning, and no more than its arrays hold.
 fn block_len(until: u64, n: u64, left: usize) -> usize
     requires { ⌜ (n < until) × (0 < left) ⌝ }
-    ensures { λ r. ⌜ (0 < r) × (n + r ≤ until) × (r ≤ left) × (r ≤ 32) ⌝ }
+    ensures { λ r. ⌜ (0 < r) × (n + r ≤ until) × (r ≤ left) × (r ≤ 32) × (r ≡ min (min (until - n) left) 32) ⌝ }
 {
     if left < BLOCK {
         return least(until - n, left);

@@ -1,3 +1,4 @@
 mod Downs
+mod Alike
 mod Groups
 pub mod Row

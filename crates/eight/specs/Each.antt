@@ -1,12 +1,12 @@
 -- Eight numbers at a time: a function of each. Definitions only.
-use mathlib.Core.Bool.{cond}
+use mathlib.Core.Bool.{Bool, cond, _&&_}
 use mathlib.Core.List.{List, [], _∷_}
 use mathlib.Core.Path.{_≡_}
 use Prim.Native.Nat.{ℕ, _+_, _-_, _<_}
 use lib.Dec.{ltb}
 use lib.ListN.{getD, set}
-use lib.Ieee.{Float, nan, le, neg}
-use Rattle.casts.specs.Arithmetic.{_⊗_, _⊘_, nought, one}
+use lib.Ieee.{Float, nan, le, eq, neg}
+use Rattle.casts.specs.Arithmetic.{_⊕_, _⊗_, _⊘_, nought, one}
 use Rattle.elementary.specs.Elementary.{TANH, twenty}
 use Rattle.eight.specs.declared.Eight.{Eight}
 
@@ -35,6 +35,16 @@ Laid count f l = (k : ℕ) → k < count → getD l k nan ≡ f k
 -- q, but 1 from 20 up and -1 from -20 down
 abbrev pub heldAt : Float → Float → Float
 heldAt v q = cond (le twenty v) one (cond (le v (neg twenty)) (neg one) q)
+
+abbrev pub totalOf : Eight → Float
+totalOf x = ((x .a ⊕ x .b) ⊕ (x .c ⊕ x .d)) ⊕ ((x .e ⊕ x .f) ⊕ (x .g ⊕ x .h))
+
+abbrev pub twoSame : Float → Float → Float → Float → Bool
+twoSame a b c d = eq a b && eq c d
+
+abbrev pub allSame : Eight → Eight → Bool
+allSame x y =
+    twoSame (x .a) (y .a) (x .b) (y .b) && (twoSame (x .c) (y .c) (x .d) (y .d) && (twoSame (x .e) (y .e) (x .f) (y .f) && twoSame (x .g) (y .g) (x .h) (y .h)))
 
 -- 01: "TANH(x·drive)/TANH(drive)", top being TANH(drive)
 abbrev pub saturatedOver : Float → Float → Float → Float

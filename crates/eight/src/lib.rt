@@ -6,7 +6,8 @@ ghost use Prim.Native.Nat.{_+_, _<_, _≤_};
 ghost use lib.ListN.{getD, set};
 ghost use Rattle.casts.specs.Arithmetic.{_⊕_, _⊖_, _⊗_, _⊘_, nought, one};
 ghost use Rattle.elementary.specs.Elementary.{TANH, SIN, COS, turn};
-ghost use Rattle.eight.specs.Each.{all, each, each2, listed, heldAt, eightAt, putEight, saturatedOver, groupEnd};
+ghost use Rattle.elementary.specs.Cut.{cut};
+ghost use Rattle.eight.specs.Each.{all, each, each2, listed, heldAt, totalOf, twoSame, allSame, eightAt, putEight, saturatedOver, groupEnd};
 
 pub struct Eight {
     pub a: f64,
@@ -144,17 +145,68 @@ fn all_turned(x: Eight) -> Eight
     }
 }
 
-fn tanh_eight(x: Eight) -> Eight
-    ensures { λ r. ⌜ r ≡ each TANH x ⌝ }
+// The ends of the chains of TANH cut to n steps.
+fn chains(z: Eight, n: u32) -> Eight
+    requires { ⌜ n ≤ 40 ⌝ }
+    ensures { λ r. ⌜ r ≡ each (λ u. cut u n) z ⌝ }
 {
-    let z = products(x, x);
-    let mut t = all_of(81.0);
-    let mut i: u32 = 40;
+    let mut t = all_of((2 * n + 1) as f64);
+    let mut i = n;
     while i > 0 {
         t = tanh_step(z, (2 * i - 1) as f64, t);
         i -= 1;
     }
-    all_held(x, quotients(x, t))
+    t
+}
+
+fn total(x: Eight) -> f64
+    ensures { λ r. ⌜ r ≡ totalOf x ⌝ }
+{
+    ((x.a + x.b) + (x.c + x.d)) + ((x.e + x.f) + (x.g + x.h))
+}
+
+fn two_same(a: f64, b: f64, c: f64, d: f64) -> bool
+    ensures { λ r. ⌜ r ≡ twoSame a b c d ⌝ }
+{
+    if a == b {
+        return c == d;
+    }
+    false
+}
+
+fn all_same(x: Eight, y: Eight) -> bool
+    ensures { λ r. ⌜ r ≡ allSame x y ⌝ }
+{
+    if two_same(x.a, y.a, x.b, y.b) {
+        if two_same(x.c, y.c, x.d, y.d) {
+            if two_same(x.e, y.e, x.f, y.f) {
+                return two_same(x.g, y.g, x.h, y.h);
+            }
+        }
+    }
+    false
+}
+
+// The ends of the chains of TANH for z = v·v of each, as elementary has one. Two short chains are fewer steps than all 40 only where no v is great.
+fn chained(x: Eight) -> Eight
+    ensures { λ r. ⌜ r ≡ each (λ v. cut (v ⊗ v) 40) x ⌝ }
+{
+    let z = products(x, x);
+    let s = total(z);
+    if s <= 16.0 {
+        let n = elementary::steps(s);
+        let t = chains(z, n);
+        if all_same(t, chains(z, n + 1)) {
+            return t;
+        }
+    }
+    chains(z, 40)
+}
+
+fn tanh_eight(x: Eight) -> Eight
+    ensures { λ r. ⌜ r ≡ each TANH x ⌝ }
+{
+    all_held(x, quotients(x, chained(x)))
 }
 
 pub fn sin_eight(x: Eight) -> Eight

@@ -1,7 +1,10 @@
 // 01's elementary functions, each equal to its definition in specs/Elementary.antt at every float.
 // Uses casts and std.
 ghost use mathlib.Core.Path.{_≡_};
+ghost use Prim.Native.Nat.{_<_, _≤_};
+ghost use Rattle.casts.specs.Arithmetic.{_⊗_};
 ghost use Rattle.elementary.specs.Elementary.{turn, SIN, COS, EXP, LN, POW, TANH, SINH, SQRT7200, SIN32, POW32};
+ghost use Rattle.elementary.specs.Cut.{cut, stepsFor};
 
 pub const TAU: f64 = 6.28318530717958647692528676655900577;
 
@@ -80,6 +83,52 @@ pub fn pow(b: f64, p: f64) -> f64
     exp(p * ln(b))
 }
 
+// How many steps of TANH's chain to try.
+pub fn steps(z: f64) -> u32
+    ensures { λ r. ⌜ (1 < r) × (r < 40) × (r ≡ stepsFor z) ⌝ }
+{
+    if z <= 1.0 {
+        return 10;
+    }
+    if z <= 4.0 {
+        return 12;
+    }
+    if z <= 16.0 {
+        return 16;
+    }
+    if z <= 64.0 {
+        return 21;
+    }
+    32
+}
+
+// The end of TANH's chain cut to n steps.
+fn chain(z: f64, n: u32) -> f64
+    requires { ⌜ n ≤ 40 ⌝ }
+    ensures { λ r. ⌜ r ≡ cut z n ⌝ }
+{
+    let mut t = (2 * n + 1) as f64;
+    let mut i = n;
+    while i > 0 {
+        t = ((2 * i - 1) as f64) + z / t;
+        i -= 1;
+    }
+    t
+}
+
+// The end of TANH's chain for z = v·v. Every longer chain ends between two cuts, so where these end alike they end where all 40 steps do.
+fn chained(v: f64) -> f64
+    ensures { λ r. ⌜ r ≡ cut (v ⊗ v) 40 ⌝ }
+{
+    let z = v * v;
+    let n = steps(z);
+    let t = chain(z, n);
+    if t == chain(z, n + 1) {
+        return t;
+    }
+    chain(z, 40)
+}
+
 pub fn tanh(v: f64) -> f64
     ensures { λ r. ⌜ r ≡ TANH v ⌝ }
 {
@@ -89,14 +138,7 @@ pub fn tanh(v: f64) -> f64
     if v <= -20.0 {
         return -1.0;
     }
-    let z = v * v;
-    let mut t = 81.0;
-    let mut i: u32 = 40;
-    while i > 0 {
-        t = ((2 * i - 1) as f64) + z / t;
-        i -= 1;
-    }
-    v / t
+    v / chained(v)
 }
 
 pub fn sinh(v: f64) -> f64

@@ -18,7 +18,7 @@ use Rattle.strip.specs.declared.Rested as rested
 use Rattle.strip.specs.declared.Rested.{Rested}
 use Rattle.strip.specs.Refusals.{longEnough}
 use Rattle.strip.specs.Calls.{OpenDone, RunDone, state, openCall, runCall, latchCall, restCall}
-use Rattle.part.specs.Pieces.{over}
+use Rattle.opening.specs.Pieces.{over}
 use Rattle.packing.specs.declared.Unpacked as unpack
 use Rattle.packing.specs.declared.Unpacked.{Unpacked}
 use Rattle.packing.specs.Packing.{numbersLong, wordsLong, flagged, packedNumbers, packedWords, unpacked}

@@ -35,8 +35,8 @@ fn kept(strip: Strip, numbers: &mut [f64], words: &mut [u64]) -> u64
 {
     let packed = packing::numbers_of(strip);
     let marked = packing::words_of(strip);
-    part::laying::lay_values(&packed, numbers);
-    part::laying::lay_positions(&marked, words);
+    opening::laying::lay_values(&packed, numbers);
+    opening::laying::lay_positions(&marked, words);
     0
 }
 

@@ -1,7 +1,7 @@
 // The ceiling: a limiter with a look-ahead, and a clamp (document 01, "Ceiling"), as a stage on its own parts of the two stores.
 // Uses casts (widen, narrow, whole part), ranges, stream (Frame), rate (CeilingRate), and stage in specs and proofs.
 ghost use mathlib.Core.Path.{_≡_};
-ghost use Prim.Native.Nat.{_+_, _-_, _*_, _%_, _<_, _≤_};
+ghost use Prim.Native.Nat.{_+_, _-_, _*_, _/_, _%_, _<_, _≤_};
 ghost use lib.ListN.{length, getD, set};
 ghost use lib.Dec.{T, leb, eqb};
 ghost use lib.Ieee.{nan, le};
@@ -375,7 +375,7 @@ fn needs_in(samples: &[f64], places: usize, head: usize, len: usize) -> bool
 
 // 0 where a step is at most 2^40. A sum of these takes less than a test of each, since SSE2 cannot compare two u64 at once.
 fn above(step: u64) -> u64
-    ensures { λ r. ⌜ (eqb r 0 ≡ leb step unit) × (r < 16777216) ⌝ }
+    ensures { λ r. ⌜ (eqb r 0 ≡ leb step unit) × (r < 16777216) × (r ≡ (step - step / unit) / unit) ⌝ }
 {
     (step - step / CeilingRate::UNIT) / CeilingRate::UNIT
 }

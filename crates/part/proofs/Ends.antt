@@ -26,7 +26,8 @@ use Rattle.strip.specs.declared.Rested as rested
 use Rattle.strip.specs.Refusals.{latchRefusal, openRefusal}
 use Rattle.strip.specs.Calls.{State, tapeIn, first, openedStrip, openedState, openCall, latchedStrip, latchCall, restingOn, restCall}
 use Rattle.refusals.proofs.Numbers.{fine, first-is, Opens}
-use Rattle.part.specs.Pieces.{opened, over, silenced, listed, Ceiled, ceiled, ceiledFresh, freshStrip}
+use Rattle.part.specs.Pieces.{opened}
+use Rattle.opening.specs.Pieces.{over, silenced, listed, Ceiled, ceiled, ceiledFresh, freshStrip}
 
 -- ---- rest: the code lends the lane m samples and the plate those from a to e
 module _ (r : Rate) (st : State) where

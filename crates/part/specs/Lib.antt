@@ -1,2 +1,2 @@
--- Whole effects of the calls and of their pieces.
+-- Whole effects of the calls.
 pub mod Pieces

@@ -1,9 +1,8 @@
 // The four calls: open, run, latch, rest. Uses every crate below it; strip has the types and the definitions that the contracts cite.
-// opening.rt has what open lays into the stores, laying.rt the two loops that lay a list.
 ghost use mathlib.Core.Path.{_≡_};
-ghost use Rattle.rate.specs.Rate.{rateOf, RateUsable};
+ghost use Rattle.rate.specs.Rate.{rateOf, RateUsable, Sized};
 ghost use Rattle.strip.specs.Calls.{state, openCall, runCall, latchedStrip, latchCall, restingOn, restCall};
-ghost use Rattle.refusals.specs.Pieces.{listsOf, Sized};
+ghost use Rattle.refusals.specs.Pieces.{listsOf};
 ghost use Rattle.part.specs.Pieces.{opened, went};
 use rate::Rate;
 use strip::Controls;
@@ -12,9 +11,6 @@ use strip::Outcome;
 use strip::Rested;
 use strip::Setup;
 use strip::Strip;
-
-pub mod laying;
-mod opening;
 
 // ---- open
 

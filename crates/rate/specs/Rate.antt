@@ -1,5 +1,8 @@
 -- A strip's numbers at a rate, where each stage's parts of the two stores lie, and what the strip's theorems ask of them.
 use Prim.Native.Nat.{ℕ, _+_, _*_, _≤_}
+use mathlib.Core.List.{List}
+use lib.ListN.{length}
+use lib.Ieee.{Float}
 use Rattle.rate.specs.Tape.{tapeRate, TapeUsable}
 use Rattle.rate.specs.Plate.{plateRate, PlateUsable}
 use Rattle.rate.specs.Ceiling.{ceilingRate, Usable}
@@ -42,3 +45,8 @@ pub record RateUsable (r : Rate) : Type 0 where
   pub ceiling : Usable (r .ceiling)
   pub samples : valuesAt r + mostPoints ≤ r .samples
   pub counts : positionsAt r + mostPoints ≤ r .counts
+
+-- the lent stores are long enough
+pub record Sized (r : Rate) (store : List Float) (counts : List ℕ) : Type 0 where
+  pub long : r .samples ≤ length store
+  pub wide : r .counts ≤ length counts

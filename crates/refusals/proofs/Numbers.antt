@@ -18,7 +18,8 @@ use Rattle.strip.specs.declared.Setup.{Setup}
 use Rattle.strip.specs.declared.Strip.{Strip}
 use Rattle.strip.specs.Refusals.{furthest, longEnough, okSetup, okRamp, okPoints, okKicks, okLists, openRefusal}
 use Rattle.strip.specs.Calls.{State, tapeIn, ceilingIn, listsIn, formed, first}
-use Rattle.refusals.specs.Pieces.{Sized, stripFormed}
+use Rattle.refusals.specs.Pieces.{stripFormed}
+use Rattle.rate.specs.Rate.{Sized}
 
 -- ---- tests joined
 pub both : (a b : Bool) → a && b ≡ true → (a ≡ true) × (b ≡ true)

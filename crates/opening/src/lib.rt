@@ -1,12 +1,11 @@
-// What open lays into the two stores, and the strip that it gives.
+// What open lays into the two stores, and the strip that it gives; laying.rt has the two loops that lay a list.
+// Uses the stages, rate for the places of their parts, and strip for its types.
 ghost use mathlib.Core.Path.{_≡_};
 ghost use Prim.Native.Nat.{_≤_};
 ghost use lib.ListN.{length, replicate};
 ghost use Rattle.casts.specs.Arithmetic.{nought};
-ghost use Rattle.rate.specs.Rate.{RateUsable};
-ghost use Rattle.refusals.specs.Pieces.{Sized};
-ghost use Rattle.part.specs.Pieces.{silenced, listed, ceiled, ceiledFresh, freshStrip};
-use crate::laying;
+ghost use Rattle.rate.specs.Rate.{RateUsable, Sized};
+ghost use Rattle.opening.specs.Pieces.{silenced, listed, ceiled, ceiledFresh, freshStrip};
 use duck::Duck;
 use master::Ceiling;
 use plate::Plate;
@@ -15,6 +14,8 @@ use ramp::Shape;
 use rate::Rate;
 use strip::Setup;
 use strip::Strip;
+
+pub mod laying;
 
 fn clear(part: &mut [f64])
     ensures { λ _. ⌜ now (part .exit) ≡ replicate (length (now (part .entry))) nought ⌝ }

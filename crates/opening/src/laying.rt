@@ -2,7 +2,7 @@
 ghost use mathlib.Core.Path.{_≡_};
 ghost use Prim.Native.Nat.{_≤_};
 ghost use lib.ListN.{length};
-ghost use Rattle.part.specs.Pieces.{over};
+ghost use Rattle.opening.specs.Pieces.{over};
 
 pub fn lay_values(values: &[f64], part: &mut [f64])
     requires { ⌜ length (now values) ≤ length (now part) ⌝ }

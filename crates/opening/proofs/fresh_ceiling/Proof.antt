@@ -1,7 +1,7 @@
-use Rattle.part.proofs.Parts.{ceiling-laid}
+use Rattle.opening.proofs.Parts.{ceiling-laid}
 use borrow.Author.Needs.{needs}
-use Rattle.part.proofs.opening.fresh_ceiling.Statement.{statement}
-use Rattle.part.proofs.opening.fresh_ceiling.Tie as tie
+use Rattle.opening.proofs.fresh_ceiling.Statement.{statement}
+use Rattle.opening.proofs.fresh_ceiling.Tie as tie
 
 ceiling-at-requires : tie.Need-ceiling-at-requires
 ceiling-at-requires c κs = search needs

@@ -1,9 +1,9 @@
-use Rattle.part.proofs.Parts.{counts-laid}
+use Rattle.opening.proofs.Parts.{counts-laid}
 use mathlib.Core.Path.{refl}
 use native.Mathlib.Omega.{arith}
 use borrow.Author.Needs.{needs}
-use Rattle.part.proofs.opening.lay_counts.Statement.{statement}
-use Rattle.part.proofs.opening.lay_counts.Tie as tie
+use Rattle.opening.proofs.lay_counts.Statement.{statement}
+use Rattle.opening.proofs.lay_counts.Tie as tie
 
 positions-at-requires : tie.Need-positions-at-requires
 positions-at-requires c κs = search needs

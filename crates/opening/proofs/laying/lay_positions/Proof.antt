@@ -3,9 +3,9 @@ use mathlib.Core.Path.{_≡_, refl, ap, _∙_}
 use mathlib.Core.List.{List, _++_}
 use Prim.Native.Nat.{ℕ, _-_, _≤_}
 use lib.ListN.{length, take, drop, getD, set, length-set}
-use Rattle.part.proofs.Parts.{lay-more, lay-done}
-use Rattle.part.proofs.laying.lay_positions.Statement.{statement}
-use Rattle.part.proofs.laying.lay_positions.Tie as tie
+use Rattle.opening.proofs.Parts.{lay-more, lay-done}
+use Rattle.opening.proofs.laying.lay_positions.Statement.{statement}
+use Rattle.opening.proofs.laying.lay_positions.Tie as tie
 
 abbrev Inv-loop : tie.InvT-loop
 Inv-loop positions part₀ i₀ part i = (i ≤ length positions) × (length part ≡ length part₀) × (part ≡ take i positions ++ drop i part₀)

@@ -1,6 +1,6 @@
 use borrow.Author.Needs.{needs}
-use Rattle.part.proofs.opening.fresh_strip.Statement.{statement}
-use Rattle.part.proofs.opening.fresh_strip.Tie as tie
+use Rattle.opening.proofs.fresh_strip.Statement.{statement}
+use Rattle.opening.proofs.fresh_strip.Tie as tie
 
 widen-requires : tie.Need-widen-requires
 widen-requires c κs = search needs

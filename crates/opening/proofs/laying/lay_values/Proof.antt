@@ -4,9 +4,9 @@ use mathlib.Core.List.{List, _++_}
 use Prim.Native.Nat.{_-_, _≤_}
 use lib.ListN.{length, take, drop, getD, set, length-set}
 use lib.Ieee.{Float, nan}
-use Rattle.part.proofs.Parts.{lay-more, lay-done}
-use Rattle.part.proofs.laying.lay_values.Statement.{statement}
-use Rattle.part.proofs.laying.lay_values.Tie as tie
+use Rattle.opening.proofs.Parts.{lay-more, lay-done}
+use Rattle.opening.proofs.laying.lay_values.Statement.{statement}
+use Rattle.opening.proofs.laying.lay_values.Tie as tie
 
 abbrev Inv-loop : tie.InvT-loop
 Inv-loop values part₀ i₀ part i = (i ≤ length values) × (length part ≡ length part₀) × (part ≡ take i values ++ drop i part₀)

@@ -6,9 +6,9 @@ use native.Mathlib.Omega.{arith}
 use lib.ListN.{length, drop, set, replicate, length-set}
 use lib.Ieee.{Float}
 use Rattle.casts.specs.Arithmetic.{nought}
-use Rattle.part.proofs.Parts.{fill-more, fill-done}
-use Rattle.part.proofs.opening.clear.Statement.{statement}
-use Rattle.part.proofs.opening.clear.Tie as tie
+use Rattle.opening.proofs.Parts.{fill-more, fill-done}
+use Rattle.opening.proofs.clear.Statement.{statement}
+use Rattle.opening.proofs.clear.Tie as tie
 
 abbrev Inv-loop : tie.InvT-loop
 Inv-loop part₀ k₀ part k = (k ≤ length part₀) × (length part ≡ length part₀) × (part ≡ replicate k nought ++ drop k part₀)

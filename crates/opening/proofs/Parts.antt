@@ -16,7 +16,7 @@ use Rattle.duck.specs.declared.Duck.{Duck}
 use Rattle.duck.specs.Cursors.{DuckIn, duckOn, laid}
 use Rattle.master.specs.declared.Ceiling.{Ceiling}
 use Rattle.master.specs.Kept.{CeilingIn, ceilingOn, ceilingFresh}
-use Rattle.part.specs.Pieces.{over, silenced, listed, ceiled, ceiledFresh}
+use Rattle.opening.specs.Pieces.{over, silenced, listed, ceiled, ceiledFresh}
 
 -- ---- a part filled from the front: with one value, and with a list
 module _ {X : Type 0} where

@@ -1,10 +1,10 @@
 use Prim.Native.Nat.{_-_}
-use Rattle.part.proofs.Parts.{samples-laid}
+use Rattle.opening.proofs.Parts.{samples-laid}
 use mathlib.Core.Path.{refl}
 use native.Mathlib.Omega.{arith}
 use borrow.Author.Needs.{needs}
-use Rattle.part.proofs.opening.lay_samples.Statement.{statement}
-use Rattle.part.proofs.opening.lay_samples.Tie as tie
+use Rattle.opening.proofs.lay_samples.Statement.{statement}
+use Rattle.opening.proofs.lay_samples.Tie as tie
 
 ceiling-at-requires : tie.Need-ceiling-at-requires
 ceiling-at-requires c κs = search needs

@@ -1,0 +1,2 @@
+-- What open lays into the stores.
+pub mod Pieces
