@@ -4,6 +4,9 @@
 # replay: the replays' tallies, of the part's answers beside kept lists of the oracle's. bench: the part's time over the Rust's.
 .PHONY: test lib demo sheet replay bench
 
+# rt starts so many checks and waits for all of them: one more than two processors, so that neither waits for the last of two.
+export RT_JOBS ?= 3
+
 test:
 	rt fmt --check
 	harness/compare 1 20
