@@ -1,5 +1,5 @@
 // The plate's lines (plate.rs, Allpass): a lattice at its own length and stretched, and a plain delay, each on its ring in
-// a part of the sample store. It may use casts, stage, elementary, stream, delay and rate.
+// a part of the sample store. It may use casts, stage, stream, delay and rate.
 use rate::LineRate;
 ghost use mathlib.Core.Path.{_≡_};
 ghost use Prim.Native.Nat.{_<_};

@@ -6,7 +6,7 @@ ghost use Prim.Native.Nat.{_+_, _<_, _≤_};
 ghost use lib.ListN.{getD, set};
 ghost use Rattle.casts.specs.Arithmetic.{_⊕_, _⊖_, _⊗_, _⊘_, nought, one};
 ghost use Rattle.elementary.specs.Elementary.{TANH, SIN, COS, turn};
-ghost use Rattle.elementary.specs.Cut.{cut};
+ghost use Rattle.elementary.specs.Convergent.{convergent};
 ghost use Rattle.eight.specs.Each.{all, each, each2, listed, heldAt, totalOf, twoSame, allSame, eightAt, putEight, saturatedOver, groupEnd};
 
 pub struct Eight {
@@ -145,10 +145,10 @@ fn all_turned(x: Eight) -> Eight
     }
 }
 
-// The ends of the chains of TANH cut to n steps.
-fn chains(z: Eight, n: u32) -> Eight
+// The nth convergents of TANH's continued fraction.
+fn convergents(z: Eight, n: u32) -> Eight
     requires { ⌜ n ≤ 40 ⌝ }
-    ensures { λ r. ⌜ r ≡ each (λ u. cut u n) z ⌝ }
+    ensures { λ r. ⌜ r ≡ each (λ u. convergent u n) z ⌝ }
 {
     let mut t = all_of((2 * n + 1) as f64);
     let mut i = n;
@@ -187,26 +187,26 @@ fn all_same(x: Eight, y: Eight) -> bool
     false
 }
 
-// The ends of the chains of TANH for z = v·v of each, as elementary has one. Two short chains are fewer steps than all 40 only where no v is great.
-fn chained(x: Eight) -> Eight
-    ensures { λ r. ⌜ r ≡ each (λ v. cut (v ⊗ v) 40) x ⌝ }
+// What TANH divides each by, as elementary has one. Two early convergents take fewer steps than the 40th only where no v is great.
+fn denominators(x: Eight) -> Eight
+    ensures { λ r. ⌜ r ≡ each (λ v. convergent (v ⊗ v) 40) x ⌝ }
 {
     let z = products(x, x);
     let s = total(z);
     if s <= 16.0 {
         let n = elementary::steps(s);
-        let t = chains(z, n);
-        if all_same(t, chains(z, n + 1)) {
+        let t = convergents(z, n);
+        if all_same(t, convergents(z, n + 1)) {
             return t;
         }
     }
-    chains(z, 40)
+    convergents(z, 40)
 }
 
 fn tanh_eight(x: Eight) -> Eight
     ensures { λ r. ⌜ r ≡ each TANH x ⌝ }
 {
-    all_held(x, quotients(x, chained(x)))
+    all_held(x, quotients(x, denominators(x)))
 }
 
 pub fn sin_eight(x: Eight) -> Eight

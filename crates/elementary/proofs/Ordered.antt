@@ -1,8 +1,8 @@
 -- Rounding keeps the order: of a number that is finite and not negative, the quotient falls as the divisor grows; a sum grows with its second part, and is never below its first. A square has no sign. Assumes nothing.
-use mathlib.Core.Path.{_≡_, refl, sym, ap, _∙_, subst}
+use mathlib.Core.Path.{_≡_, refl, sym, subst}
 use mathlib.Core.Bool.{Bool, true, false, not, cond, Bool·beq}
-use Prim.Native.Nat.{ℕ, zero, suc, _+_, _*_, _^_, _≤_, _<_, zero-le}
-use native.Mathlib.Nat.{le-trans, le-of-eq, mul-pos, mul-comm, mul-assoc, mul-left-comm, mul-one, zero-mul, add-zero, add-mul, add-le-add, le-refl, mul-le-mul-right}
+use Prim.Native.Nat.{ℕ, zero, suc, _+_, _*_, _^_, _≤_, zero-le}
+use native.Mathlib.Nat.{le-trans, le-of-eq, mul-pos, mul-comm, mul-assoc, mul-left-comm, mul-one, zero-mul, add-mul, add-le-add, mul-le-mul-right}
 use native.Mathlib.Omega.{arith}
 use lib.Dec.{T, ltb, eqb, ltb→lt, eqb→eq}
 use lib.IntN.{ℤ, pos}

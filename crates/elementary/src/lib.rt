@@ -4,7 +4,7 @@ ghost use mathlib.Core.Path.{_≡_};
 ghost use Prim.Native.Nat.{_<_, _≤_};
 ghost use Rattle.casts.specs.Arithmetic.{_⊗_};
 ghost use Rattle.elementary.specs.Elementary.{turn, SIN, COS, EXP, LN, POW, TANH, SINH, SQRT7200, SIN32, POW32};
-ghost use Rattle.elementary.specs.Cut.{cut, stepsFor};
+ghost use Rattle.elementary.specs.Convergent.{convergent, stepsFor};
 
 pub const TAU: f64 = 6.28318530717958647692528676655900577;
 
@@ -83,7 +83,7 @@ pub fn pow(b: f64, p: f64) -> f64
     exp(p * ln(b))
 }
 
-// How many steps of TANH's chain to try.
+// Which convergent of TANH's continued fraction to try.
 pub fn steps(z: f64) -> u32
     ensures { λ r. ⌜ (1 < r) × (r < 40) × (r ≡ stepsFor z) ⌝ }
 {
@@ -102,10 +102,10 @@ pub fn steps(z: f64) -> u32
     32
 }
 
-// The end of TANH's chain cut to n steps.
-fn chain(z: f64, n: u32) -> f64
+// The nth convergent of TANH's continued fraction.
+fn convergent(z: f64, n: u32) -> f64
     requires { ⌜ n ≤ 40 ⌝ }
-    ensures { λ r. ⌜ r ≡ cut z n ⌝ }
+    ensures { λ r. ⌜ r ≡ convergent z n ⌝ }
 {
     let mut t = (2 * n + 1) as f64;
     let mut i = n;
@@ -116,17 +116,17 @@ fn chain(z: f64, n: u32) -> f64
     t
 }
 
-// The end of TANH's chain for z = v·v. Every longer chain ends between two cuts, so where these end alike they end where all 40 steps do.
-fn chained(v: f64) -> f64
-    ensures { λ r. ⌜ r ≡ cut (v ⊗ v) 40 ⌝ }
+// What TANH divides v by: the 40th convergent at z = v·v. It lies between any two neighbours before it, so where two of those are one float it is that float.
+fn denominator(v: f64) -> f64
+    ensures { λ r. ⌜ r ≡ convergent (v ⊗ v) 40 ⌝ }
 {
     let z = v * v;
     let n = steps(z);
-    let t = chain(z, n);
-    if t == chain(z, n + 1) {
+    let t = convergent(z, n);
+    if t == convergent(z, n + 1) {
         return t;
     }
-    chain(z, 40)
+    convergent(z, 40)
 }
 
 pub fn tanh(v: f64) -> f64
@@ -138,7 +138,7 @@ pub fn tanh(v: f64) -> f64
     if v <= -20.0 {
         return -1.0;
     }
-    v / chained(v)
+    v / denominator(v)
 }
 
 pub fn sinh(v: f64) -> f64

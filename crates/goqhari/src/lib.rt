@@ -1,6 +1,6 @@
 // The four calls for C (include/goqhari.h): `rt staticlib goqhari` builds the library from them. The strip stands packed in two lists that the caller lends.
 // No call has a `requires`, and each contract is the Rattle call's through the packing (specs/Library.antt).
-// Uses part for the calls, packing for the strip, refusals for 1, setup for the setup.
+// Uses part for the calls, packing for the strip, refusals for 1, opening to lay a list, setup for the setup.
 ghost use mathlib.Core.Path.{_≡_};
 ghost use Prim.Native.Nat.{_≤_};
 ghost use lib.ListN.{length};

@@ -1,4 +1,4 @@
-// The four calls: open, run, latch, rest. Uses every crate below it; strip has the types and the definitions that the contracts cite.
+// The four calls: open, run, latch, rest. Uses refusals for the checks, opening and blocks for the work, and the stages; strip has the types and the definitions that the contracts cite.
 ghost use mathlib.Core.Path.{_≡_};
 ghost use Rattle.rate.specs.Rate.{rateOf, RateUsable, Sized};
 ghost use Rattle.strip.specs.Calls.{state, openCall, runCall, latchedStrip, latchCall, restingOn, restCall};

@@ -1,6 +1,6 @@
 // The tape lane as a stage (lanes.rs `Tape`): tone, swell and gain, warp, saturation, head bump, rolloff, tilt, gain and duck.
 // It works on its own parts of the stores: the warp's ring in the sample store, the duck's part in the count store.
-// Uses casts, elementary, eight, stage, stream, onepole, biquad, delay, ramp, rate, automation, sidechain, duck and oscillators.
+// Uses casts, ranges, elementary, eight, stage, onepole, biquad, delay, ramp, rate, automation, sidechain, duck and oscillators.
 ghost use mathlib.Core.Path.{_≡_};
 ghost use mathlib.Core.List.{map};
 ghost use Prim.Native.Nat.{_+_, _<_, _≤_};

@@ -1,16 +1,16 @@
--- `elementary::chain` meets its contract. The loop's invariant: the i steps that are left take t to the cut's end. Assumes nothing.
+-- `elementary::convergent` meets its contract. The loop's invariant: the i steps that are left take t to the convergent. Assumes nothing.
 use borrow.Author.Needs.{needs}
 use mathlib.Core.Path.{_≡_, refl, sym, _∙_}
 use Prim.Native.Nat.{_≤_}
 use native.Mathlib.Omega.{arith}
 use Rattle.elementary.specs.Elementary.{tanhStep, down}
-use Rattle.elementary.specs.Cut.{cut}
+use Rattle.elementary.specs.Convergent.{convergent}
 use Rattle.elementary.proofs.Down.{down-step, down-zero}
-use Rattle.elementary.proofs.chain.Statement.{statement}
-use Rattle.elementary.proofs.chain.Tie as tie
+use Rattle.elementary.proofs.convergent.Statement.{statement}
+use Rattle.elementary.proofs.convergent.Tie as tie
 
 abbrev Inv-loop : tie.InvT-loop
-Inv-loop z n t₀ i₀ t i = (i ≤ n) × (down (tanhStep z) i t ≡ cut z n)
+Inv-loop z n t₀ i₀ t i = (i ≤ n) × (down (tanhStep z) i t ≡ convergent z n)
 
 abbrev μ-loop : tie.MeasureT-loop
 μ-loop z n t₀ i₀ t i = i
@@ -25,7 +25,7 @@ int-to-float-t : tie.Need-int-to-float-t Inv-loop μ-loop
 int-to-float-t c = search needs
 
 loop-holds : tie.Need-loop-holds Inv-loop μ-loop
-unfolding cut
+unfolding convergent
 loop-holds c = (omega arith, refl)
 
 mul-t-2 : tie.Need-mul-t-2 Inv-loop μ-loop
@@ -53,8 +53,8 @@ returns c =
     let l = c .before .loop in
     sym (down-zero _ (l .i) (l .t) (omega arith)) ∙ l .inv .1
 
-pub chain-spec : {M : Type 1} → statement M
-chain-spec =
+pub convergent-spec : {M : Type 1} → statement M
+convergent-spec =
     tie.close
     (tie.spec
     Inv-loop

@@ -1,17 +1,17 @@
--- `eight::chains` meets its contract. The loop's invariant: the i steps that are left take each t to its cut's end. Assumes nothing.
+-- `eight::convergents` meets its contract. The loop's invariant: the i steps that are left take each t to its convergent. Assumes nothing.
 use borrow.Author.Needs.{needs}
-use mathlib.Core.Path.{_≡_, refl, sym, _∙_}
+use mathlib.Core.Path.{_≡_, sym, _∙_}
 use Prim.Native.Nat.{_≤_}
 use native.Mathlib.Omega.{arith}
 use Rattle.elementary.specs.Elementary.{tanhStep}
-use Rattle.elementary.specs.Cut.{cut}
+use Rattle.elementary.specs.Convergent.{convergent}
 use Rattle.eight.specs.Each.{each}
 use Rattle.eight.proofs.Downs.{downs, downs-step, downs-zero}
-use Rattle.eight.proofs.chains.Statement.{statement}
-use Rattle.eight.proofs.chains.Tie as tie
+use Rattle.eight.proofs.convergents.Statement.{statement}
+use Rattle.eight.proofs.convergents.Tie as tie
 
 abbrev Inv-loop : tie.InvT-loop
-Inv-loop z n t₀ i₀ t i = (i ≤ n) × (downs tanhStep z i t ≡ each (λ u. cut u n) z)
+Inv-loop z n t₀ i₀ t i = (i ≤ n) × (downs tanhStep z i t ≡ each (λ u. convergent u n) z)
 
 abbrev μ-loop : tie.MeasureT-loop
 μ-loop z n t₀ i₀ t i = i
@@ -29,7 +29,7 @@ all-of-requires : tie.Need-all-of-requires Inv-loop μ-loop
 all-of-requires c κs = search needs
 
 loop-holds : tie.Need-loop-holds Inv-loop μ-loop
-unfolding cut
+unfolding convergent
 loop-holds c = (omega arith, rw (c .all-of .ensures))
 
 mul-tanh-step : tie.Need-mul-tanh-step Inv-loop μ-loop
@@ -60,8 +60,8 @@ returns c =
     let l = c .before .loop in
     sym (downs-zero tanhStep _ (l .i) (l .t) (omega arith)) ∙ l .inv .1
 
-pub chains-spec : {M : Type 1} → statement M
-chains-spec =
+pub convergents-spec : {M : Type 1} → statement M
+convergents-spec =
     tie.close
     (tie.spec
     Inv-loop
