@@ -2,7 +2,7 @@
 use mathlib.Core.Path.{_≡_}
 use mathlib.Core.Bool.{Bool, true, false, cond, _&&_, and-true, and-false}
 use mathlib.Core.List.{List}
-use Prim.Native.Nat.{ℕ, _+_, _≤_, _<_}
+use Prim.Native.Nat.{ℕ, _+_, _*_, _/_, _%_, _≤_, _<_}
 use native.Mathlib.Numerals.{add-one}
 use native.Mathlib.Nat.{add-zero}
 use native.Mathlib.Omega.{arith}
@@ -38,10 +38,37 @@ between b k m rest = elim (decLt k b) [
   | no f ↦ elim (decLt m k) [ yes g ↦ rw (lt-leb k m g, and-false (leb b k)) (and-false (leb b m)) | no g ↦ rw (le-leb b m (omega arith)) ]
 ]
 
+-- so many differences add up to no more than an u64 holds
+share : (d : ℕ) → d < 18446744073709551616 → d / 8589934592 < 2147483648
+share d h = omega arith
+
+summed : (far q i n : ℕ) → far ≤ i * 2147483648 → i < n → n ≤ 65535 → q < 2147483648 → far + q < 18446744073709551616
+summed far q i n a b c d = omega arith
+
+pub room : (far d i n : ℕ) → far ≤ i * 2147483648 → i < n → n ≤ 65535 → d < 18446744073709551616 → far + d / 8589934592 < 18446744073709551616
+room far d i n a b c h = summed far (d / 8589934592) i n a b c (share d h)
+
+-- d is k - b, wrapped; b has no topmost bit where nothing was far before
+apart : (b k n d : ℕ) (rest : Bool) → (d + b) % 18446744073709551616 ≡ k → d < 18446744073709551616 → (n ≡ 0 → b < 9223372036854775808) → (eqb (n + d / 8589934592) 0 && (leb k 4294967296 && rest)) ≡ (eqb n 0 && (leb b k && (leb k 4294967296 && rest)))
+apart b k n d rest e fits h = elim (decLt 4294967296 k) [
+  | yes f ↦ rw (lt-leb k 4294967296 f, and-false (leb b k), and-false (eqb n 0)) (and-false (eqb (n + d / 8589934592) 0))
+  | no f ↦ elim (decLt 0 n) [
+    | yes g ↦ rw (ne-eqb (n + d / 8589934592) 0 (λ z. omega arith), ne-eqb n 0 (λ z. omega arith))
+    | no g ↦
+        let z : n ≡ 0 = omega arith in
+        let low : b < 9223372036854775808 = h z in
+        elim (decLt k b) [
+          | yes j ↦ rw (ne-eqb (n + d / 8589934592) 0 (λ y. omega arith), lt-leb b k j, and-false (eqb n 0))
+          | no j ↦ let near : n + d / 8589934592 ≡ n = omega arith in rw (near, le-leb b k (omega arith))
+        ]
+  ]
+]
+
 module _ (l : List ℕ) (b i n : ℕ) where
-  pub rising-more : i < length l → (eqb (n + cond (leb b (getD l i 0)) 0 1) 0 && (leb (getD l i 0) 4294967296 && risingFrom (getD l i 0) (drop (i + 1) l))) ≡ (eqb n 0 && (leb b 4294967296 && risingFrom b (drop i l)))
+  pub rising-more : (d : ℕ) → i < length l → (d + b) % 18446744073709551616 ≡ getD l i 0 → d < 18446744073709551616 → (n ≡ 0 → b < 9223372036854775808)
+      → (eqb (n + d / 8589934592) 0 && (leb (getD l i 0) 4294967296 && risingFrom (getD l i 0) (drop (i + 1) l))) ≡ (eqb n 0 && (leb b 4294967296 && risingFrom b (drop i l)))
   unfolding risingFrom
-  rising-more h = rw (count-more n, drop-cons l i 0 h, add-one i, between b (getD l i 0) 4294967296)
+  rising-more d h e fits low = rw (apart b (getD l i 0) n d _ e fits low, drop-cons l i 0 h, add-one i, between b (getD l i 0) 4294967296)
 
   pub rising-done : length l ≤ i → (eqb n 0 && leb b 4294967296) ≡ (eqb n 0 && (leb b 4294967296 && risingFrom b (drop i l)))
   unfolding risingFrom
