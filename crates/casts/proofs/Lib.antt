@@ -2,7 +2,7 @@
 pub mod Pattern
 pub mod Split
 pub mod Exact
-mod Widening
+pub mod Widening
 mod Rounded
 mod Closest
 mod Narrowing

@@ -2,12 +2,14 @@
 use mathlib.Core.Path.{_≡_, refl, sym, ap, _∙_, subst}
 use mathlib.Core.Logic.{_⊎_, inl, inr}
 use Prim.Native.Nat.{ℕ, suc, _+_, _-_, _*_, _/_, _%_, _^_, _≤_, _<_}
-use native.Mathlib.Nat.{le-trans, le-of-eq, le-of-lt, mul-assoc, mul-le-mul-right, mod-eq-of-lt}
+use native.Mathlib.Nat.{le-trans, le-of-eq, le-of-lt, mul-assoc, mul-le-mul-right, mod-eq-of-lt, zero-add}
 use native.Mathlib.Omega.{arith}
-use mathlib.Core.Bool.{Bool}
+use mathlib.Core.Bool.{Bool, true, false}
+use native.Mathlib.Decide.{decLt}
+use lib.Dec.{T}
 use lib.Pow.{pow-add, pow-pos, shl-lt}
 use lib.Count.{leadingZeros, leading-top}
-use lib.Ieee.{binary32, binary64, ofBits}
+use lib.Ieee.{Float, binary32, binary64, fits, ofBits}
 use lib.Ieee.Fits.{fits-widens}
 use lib.Ieee.Bits.{ofBits-fits}
 use lib.Ieee.Exact.{HasValue}
@@ -69,6 +71,12 @@ widens-mid m lo hi =
 
     lead : (m : ℕ) → 4503599627370496 ≤ (8388608 + m % 8388608) * 536870912
     lead m = omega arith
+
+-- the same, field and fraction moved as one number
+pub widens-whole : (m : ℕ) → 8388608 ≤ m → m < 2139095040 → Widens m ((m + 7516192768) * 536870912)
+widens-whole m lo hi =
+    let e : (m / 8388608 + 895) * 4503599627370496 + (m % 8388608 + 8388608) * 536870912 ≡ (m + 7516192768) * 536870912 = omega arith in
+    subst (Widens m) e (widens-mid m lo hi)
 
 -- ---- a value below the normal ones, 0 first
 pub widens-zero : Widens 0 0
@@ -137,3 +145,22 @@ widens-shifted m z w lo hi e f =
   where
     more : (x : ℕ) → x < 2 ^ 53 → x < 18446744073709551616
     more x h = omega arith
+
+-- ---- a pattern with the field of a normal f32 and no digit below an f32's
+placed : (s : Bool) (b : ℕ) → 897 ≤ b / 4503599627370496 → b / 4503599627370496 < 1151 → b % 536870912 ≡ 0 → T (fits binary32 (ofBits binary64 (signed binary64 s b)))
+placed s b lo hi z =
+    let m = b / 536870912 - 7516192768 in
+    let least : 8388608 ≤ m = omega arith in
+    let most : m < 2139095040 = omega arith in
+    let back : (m / 8388608 + 895) * 4503599627370496 + (m % 8388608 + 8388608) * 536870912 ≡ b = omega arith in
+    let same = subst (λ (r : ℕ). ofBits binary64 (signed binary64 s r) ≡ ofBits binary32 (signed binary32 s m)) back (widens-mid m least most .same s) in
+    subst (λ (v : Float). T (fits binary32 v)) (sym same) (ofBits-fits binary32 (signed binary32 s m))
+
+pub fits-short : (b : ℕ) → b < 18446744073709551616 → 897 ≤ b / 4503599627370496 % 2048 → b / 4503599627370496 % 2048 < 1151 → b % 536870912 ≡ 0 → T (fits binary32 (ofBits binary64 b))
+fits-short b u lo hi z = elim (decLt b 9223372036854775808) [
+  | yes h ↦ subst (λ (r : ℕ). T (fits binary32 (ofBits binary64 r))) (zero-add b) (placed false b (omega arith) (omega arith) z)
+  | no h ↦
+      let m = b - 9223372036854775808 in
+      let back : 9223372036854775808 + m ≡ b = omega arith in
+      subst (λ (r : ℕ). T (fits binary32 (ofBits binary64 r))) back (placed true m (omega arith) (omega arith) (omega arith))
+]

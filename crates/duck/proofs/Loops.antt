@@ -1,6 +1,6 @@
 -- The loops over the kicks: what one more kick does, and where a loop ends. Assumes nothing.
 use mathlib.Core.Path.{_≡_, refl, sym, ap, _∙_}
-use mathlib.Core.Bool.{Bool, true, false, cond}
+use mathlib.Core.Bool.{Bool, true, false, cond, _&&_, and-eq-true-iff}
 use Prim.Native.Nat.{ℕ, zero, suc, _+_, _-_, _<_, _≤_}
 use native.Mathlib.Omega.{arith}
 use native.Mathlib.Numerals.{add-one}
@@ -10,12 +10,12 @@ use lib.Dec.{leb}
 use lib.ListN.{length, take, drop, getD, set, length-set, length-map, length-drop, drop-of-length-le, List·getD-map}
 use lib.Seq.{drop-cons, getD-take, getD-drop, length-take-le, take-suc, take-length, append-snoc, set-at}
 use lib.Ieee.{Float}
-use borrow.Author.Tests.{le-leb, lt-leb}
-use Rattle.casts.specs.Arithmetic.{_⊗_, one}
+use borrow.Author.Tests.{leb-true, le-leb, lt-leb}
+use Rattle.casts.specs.Arithmetic.{one}
 use Rattle.stage.specs.Stage.{Step}
 use Rattle.sidechain.specs.declared.DuckRate.{DuckRate}
-use Rattle.sidechain.specs.Sidechain.{span, sidechainGain}
-use Rattle.duck.specs.Cursors.{DuckIn, duckOn, laid, isMark, flag, kicksIn, marksIn, Reached, reachedAt, reach, released, timesUntil, gave, gainOn, Within}
+use Rattle.sidechain.specs.Sidechain.{span, releases}
+use Rattle.duck.specs.Cursors.{DuckIn, duckOn, laid, isMark, flag, kicksIn, marksIn, Reached, reachedAt, reach, released, timesGain, timesUntil, gave, gainOn, Within}
 
 -- ---- a list that is laid at the front of a part
 
@@ -36,6 +36,13 @@ module _ (r : DuckRate) (k n : ℕ) where
     | yes i ↦ lt-leb (r .release) (n - k - r .attack) (omega arith) ∙ sym (lt-leb (k + span r) n i)
     | no i ↦ le-leb (r .release) (n - k - r .attack) (omega arith) ∙ sym (le-leb (k + span r) n (omega arith))
   ]
+
+-- a kick that sounds
+pub sounds-says : (r : DuckRate) (mark kick n : ℕ) → isMark mark && (leb kick n && releases r (n - kick)) ≡ true → (isMark mark ≡ true) × (kick ≤ n) × (releases r (n - kick) ≡ true)
+sounds-says r mark kick n e =
+    let a = and-eq-true-iff (isMark mark) _ .0 e in
+    let b = and-eq-true-iff (leb kick n) _ .0 (a .1) in
+    (a .0, leb-true kick n (b .0), b .1)
 
 -- ---- marking
 
@@ -89,7 +96,7 @@ module _ (count : ℕ) (u : List ℕ) (few : count ≤ 1024) (wide : 2048 ≤ le
 
     -- the product
     pub times-more : (g : Float) → c < count → getD u c 0 ≤ n
-        → timesUntil r n (cond (isMark (getD u (1024 + c) 0)) (g ⊗ sidechainGain r (n - getD u c 0)) g) (drop (c + 1) (kicksIn count u)) (drop (c + 1) (marksIn count u))
+        → timesUntil r n (timesGain r g (n - getD u c 0) (isMark (getD u (1024 + c) 0))) (drop (c + 1) (kicksIn count u)) (drop (c + 1) (marksIn count u))
         ≡ timesUntil r n g (drop c (kicksIn count u)) (drop c (marksIn count u))
     unfolding timesUntil
     times-more g h e = rw (kicks-cons c h, marks-cons c h, le-leb (getD u c 0) n e)
@@ -101,6 +108,18 @@ module _ (count : ℕ) (u : List ℕ) (few : count ≤ 1024) (wide : 2048 ≤ le
     pub times-done : (g : Float) → count ≤ c → g ≡ timesUntil r n g (drop c (kicksIn count u)) (drop c (marksIn count u))
     unfolding timesUntil
     times-done g h = rw (kicks-over c h)
+
+  -- two marked kicks of the product
+  pub times-two-more : (r : DuckRate) (n c : ℕ) (g : Float) → c + 1 < count → getD u c 0 ≤ n → getD u (c + 1) 0 ≤ n
+      → isMark (getD u (1024 + c) 0) ≡ true → isMark (getD u (1024 + c + 1) 0) ≡ true
+      → timesUntil r n (timesGain r (timesGain r g (n - getD u c 0) true) (n - getD u (c + 1) 0) true) (drop (c + 2) (kicksIn count u)) (drop (c + 2) (marksIn count u))
+      ≡ timesUntil r n g (drop c (kicksIn count u)) (drop c (marksIn count u))
+  times-two-more r n c g h e f marked marked' =
+      let mark : 1024 + c + 1 ≡ 1024 + (c + 1) = omega arith in
+      let next : c + 2 ≡ c + 1 + 1 = omega arith in
+      let first = rw marked at (times-more r n c g (omega arith) e) in
+      let second = rw (sym mark, marked') at (times-more r n (c + 1) (timesGain r g (n - getD u c 0) true) h f) in
+      rw next (second ∙ first)
 
 -- ---- a sample keeps the cursors within their list
 

@@ -1,7 +1,7 @@
 -- The duck as it is kept gives what document 01's duck gives, at every sample. Assumes nothing.
 --     DuckHolds     the marks of the one and the cursors and part of the other go together
 use mathlib.Core.Path.{_≡_, refl, sym, ap, _∙_}
-use mathlib.Core.Bool.{Bool, true, false, cond, _&&_, and-true}
+use mathlib.Core.Bool.{Bool, true, false, cond, _&&_, and-true, and-false, and-eq-true-iff}
 use Prim.Native.Nat.{ℕ, zero, suc, _+_, _-_, _<_, _≤_}
 use native.Mathlib.Decide.{decLt}
 use native.Mathlib.Omega.{arith}
@@ -20,19 +20,6 @@ use Rattle.ranges.specs.Ranges.{risingFrom}
 use Rattle.duck.specs.Cursors.{DuckIn, laid, isMark, flag, kicksIn, marksIn, Reached, reachedAt, reach, released, timesUntil, gainOn, duckStepOn, Within, duckFormed}
 use Rattle.duck.proofs.Loops.{kicks-length, marks-length, marks-get, gain-within}
 
--- ---- a chain of tests that comes to true
-
-both : (a b : Bool) → a && b ≡ true → (a ≡ true) × (b ≡ true)
-both true b e = (refl, e)
-both false b e = let z : _≡_ {A = ℕ} 0 1 = cc in absurd (omega arith)
-
-from-both : (a b : Bool) → a ≡ true → b ≡ true → a && b ≡ true
-from-both a b e f = rw e f
-
-and-false : (a : Bool) → a && false ≡ false
-and-false true = refl
-and-false false = refl
-
 -- ---- a list that never falls
 
 Sorted : List ℕ → Type 0
@@ -41,10 +28,10 @@ Sorted l = (i j : ℕ) → i ≤ j → j < length l → getD l i 0 ≤ getD l j 
 rising-low : (b : ℕ) (l : List ℕ) → risingFrom b l ≡ true → (j : ℕ) → j < length l → b ≤ getD l j 0
 unfolding risingFrom
 rising-low b [] e j h = absurd (omega arith)
-rising-low b (k ∷ l) e zero h = leb-true b k (both (leb b k) _ e .0)
+rising-low b (k ∷ l) e zero h = leb-true b k (and-eq-true-iff (leb b k) _ .0 e .0)
 rising-low b (k ∷ l) e (suc j) h =
-    let f = both (leb b k) _ e in
-    let g = both (leb k 4294967296) _ (f .1) in
+    let f = and-eq-true-iff (leb b k) _ .0 e in
+    let g = and-eq-true-iff (leb k 4294967296) _ .0 (f .1) in
     let i : b ≤ k = leb-true b k (f .0) in
     let t : k ≤ getD l j 0 = rising-low k l (g .1) j (omega arith) in
     omega arith
@@ -53,9 +40,9 @@ rising-sorted : (b : ℕ) (l : List ℕ) → risingFrom b l ≡ true → Sorted 
 unfolding risingFrom Sorted
 rising-sorted b [] e i j p h = absurd (omega arith)
 rising-sorted b (k ∷ l) e zero zero p h = omega arith
-rising-sorted b (k ∷ l) e zero (suc j) p h = rising-low k l (both (leb k 4294967296) _ (both (leb b k) _ e .1) .1) j (omega arith)
+rising-sorted b (k ∷ l) e zero (suc j) p h = rising-low k l (and-eq-true-iff (leb k 4294967296) _ .0 (and-eq-true-iff (leb b k) _ .0 e .1) .1) j (omega arith)
 rising-sorted b (k ∷ l) e (suc i) zero p h = absurd (omega arith)
-rising-sorted b (k ∷ l) e (suc i) (suc j) p h = rising-sorted k l (both (leb k 4294967296) _ (both (leb b k) _ e .1) .1) i j (omega arith) (omega arith)
+rising-sorted b (k ∷ l) e (suc i) (suc j) p h = rising-sorted k l (and-eq-true-iff (leb k 4294967296) _ .0 (and-eq-true-iff (leb b k) _ .0 e .1) .1) i j (omega arith) (omega arith)
 
 -- ---- what marking leaves
 
@@ -349,7 +336,7 @@ holds-formed r kicks n marks s h = let w = h .within in rw (le-leb _ _ (w .few),
 pub formed-within : (s : DuckIn) → 2048 ≤ length (s .part) → duckFormed s ≡ true → Within s
 unfolding duckFormed
 formed-within s wide e =
-    let a = both _ _ e in
-    let b = both _ _ (a .1) in
-    let c = both _ _ (b .1) in
+    let a = and-eq-true-iff _ _ .0 e in
+    let b = and-eq-true-iff _ _ .0 (a .1) in
+    let c = and-eq-true-iff _ _ .0 (b .1) in
     record { sized = wide; few = leb-true _ _ (a .0); reached = leb-true _ _ (b .0); ducking = leb-true _ _ (c .0) }

@@ -58,11 +58,15 @@ unfoldable pub released : DuckRate → ℕ → List ℕ → ℕ
 released r n [] = 0
 released r n (k ∷ kicks) = cond (leb (k + span r) n) (released r n kicks + 1) 0
 
+-- one kick more in the product: g, times the gain so many samples since a kick if it is marked
+abbrev pub timesGain : DuckRate → Float → ℕ → Bool → Float
+timesGain r g since m = cond m (g ⊗ sidechainGain r since) g
+
 -- `Duck::gain`: from g, times the gain of each marked kick, up to the first kick after n
 unfoldable pub timesUntil : DuckRate → ℕ → Float → List ℕ → List Bool → Float
 timesUntil r n g [] marks = g
 timesUntil r n g (k ∷ kicks) [] = g
-timesUntil r n g (k ∷ kicks) (m ∷ marks) = cond (leb k n) (timesUntil r n (cond m (g ⊗ sidechainGain r (n - k)) g) kicks marks) g
+timesUntil r n g (k ∷ kicks) (m ∷ marks) = cond (leb k n) (timesUntil r n (timesGain r g (n - k) m) kicks marks) g
 
 -- the sample n, with the drums flag d: the duck after it, and its gain
 unfoldable pub gainOn : DuckRate → Bool → ℕ → DuckIn → Step DuckIn Float

@@ -4,11 +4,11 @@ ghost use mathlib.Core.Path.{_≡_};
 ghost use Prim.Native.Nat.{_+_, _-_, _<_, _≤_};
 ghost use lib.Dec.{leb};
 ghost use lib.ListN.{length, drop};
-ghost use mathlib.Core.Bool.{cond};
-ghost use Rattle.casts.specs.Arithmetic.{_⊗_, one};
+ghost use mathlib.Core.Bool.{true, _&&_};
+ghost use Rattle.casts.specs.Arithmetic.{one};
 ghost use Rattle.stage.specs.Stage.{ran, outs};
-ghost use Rattle.sidechain.specs.Sidechain.{span, sidechainGain};
-ghost use Rattle.duck.specs.Cursors.{duckOn, laid, flag, isMark, kicksIn, marksIn, reach, reachedAt, released, timesUntil, gave, gainOn, duckStepOn, Within, duckFormed};
+ghost use Rattle.sidechain.specs.Sidechain.{span, releases};
+ghost use Rattle.duck.specs.Cursors.{duckOn, laid, flag, isMark, kicksIn, marksIn, reach, reachedAt, released, timesGain, timesUntil, gave, gainOn, duckStepOn, Within, duckFormed};
 use sidechain::DuckRate;
 use sidechain::Gains;
 
@@ -87,9 +87,22 @@ fn has_released(rate: DuckRate, kick: u64, n: u64) -> bool
     rate.release <= since - rate.attack
 }
 
+// Whether a kick is marked and releases at n.
+fn sounds(rate: DuckRate, kick: u64, mark: u64, n: u64) -> bool
+    ensures { λ r. ⌜ r ≡ (isMark mark && (leb kick n && releases rate (n - kick))) ⌝ }
+{
+    if mark == 0 {
+        return false;
+    }
+    if n < kick {
+        return false;
+    }
+    sidechain::releases(rate, n - kick)
+}
+
 // One kick more in the product.
 fn times_gain(rate: DuckRate, gain: f64, since: u64, mark: u64) -> f64
-    ensures { λ r. ⌜ r ≡ cond (isMark mark) (gain ⊗ sidechainGain rate since) gain ⌝ }
+    ensures { λ r. ⌜ r ≡ timesGain rate gain since (isMark mark) ⌝ }
 {
     if mark == 0 {
         return gain;
@@ -97,11 +110,20 @@ fn times_gain(rate: DuckRate, gain: f64, since: u64, mark: u64) -> f64
     gain * sidechain::sidechain_gain(rate, since)
 }
 
+// Two marked kicks that release more in the product: their gains do not wait for each other.
+fn times_two(rate: DuckRate, gain: f64, first: u64, second: u64) -> f64
+    requires { ⌜ (releases rate first ≡ true) × (releases rate second ≡ true) ⌝ }
+    ensures { λ r. ⌜ r ≡ timesGain rate (timesGain rate gain first true) second true ⌝ }
+{
+    let of = sidechain::releasing_gains(rate, first, second);
+    gain * of.at * of.after
+}
+
 // One kick more in the products of two samples.
 fn times_gains(rate: DuckRate, gains: Gains, since: u64, mark: u64) -> Gains
     requires { ⌜ since + 1 < 4294967296 ⌝ }
-    ensures { λ r. ⌜ r .at ≡ cond (isMark mark) (gains .at ⊗ sidechainGain rate since) (gains .at) ⌝ }
-    ensures { λ r. ⌜ r .after ≡ cond (isMark mark) (gains .after ⊗ sidechainGain rate (since + 1)) (gains .after) ⌝ }
+    ensures { λ r. ⌜ r .at ≡ timesGain rate (gains .at) since (isMark mark) ⌝ }
+    ensures { λ r. ⌜ r .after ≡ timesGain rate (gains .after) (since + 1) (isMark mark) ⌝ }
 {
     if mark == 0 {
         return gains;
@@ -171,6 +193,28 @@ fn product(rate: DuckRate, counts: &[u64], count: usize, from: usize, n: u64, ga
     gain
 }
 
+// The gains from a kick on, two by two while two sound.
+fn product_by_two(rate: DuckRate, counts: &[u64], count: usize, from: usize, n: u64) -> f64
+    requires { ⌜ (2048 ≤ length (now counts)) × (count ≤ 1024) × (from ≤ count) ⌝ }
+    ensures { λ g. ⌜ g ≡ timesUntil rate n one (drop from (kicksIn count (now (counts .entry)))) (drop from (marksIn count (now (counts .entry)))) ⌝ }
+{
+    let mut gain: f64 = 1.0;
+    let mut c = from;
+    while c + 1 < count {
+        let first = counts[c];
+        let second = counts[c + 1];
+        if !sounds(rate, first, counts[KICKS + c], n) {
+            break;
+        }
+        if !sounds(rate, second, counts[KICKS + c + 1], n) {
+            break;
+        }
+        gain = times_two(rate, gain, n - first, n - second);
+        c += 2;
+    }
+    product(rate, counts, count, c, n, gain)
+}
+
 // The products at n and at n + 1, side by side: a product's multiplications wait for each other, those of two do not.
 fn products(rate: DuckRate, counts: &[u64], count: usize, from: usize, n: u64) -> Gains
     requires { ⌜ (2048 ≤ length (now counts)) × (count ≤ 1024) × (from ≤ count) × (n + 1 < 4294967296) ⌝ }
@@ -219,7 +263,7 @@ pub fn duck_step(rate: DuckRate, duck: Duck, counts: &mut [u64], n: u64, drums: 
     ensures { λ r. ⌜ gave (r .duck) (now (counts .exit)) (r .gain) ≡ gainOn rate drums n (duckOn duck (now (counts .entry))) ⌝ }
 {
     let duck = moved(rate, duck, counts, n, drums);
-    let gain = product(rate, counts, duck.count, duck.ducking, n, 1.0);
+    let gain = product_by_two(rate, counts, duck.count, duck.ducking, n);
     Ducked { duck, gain }
 }
 

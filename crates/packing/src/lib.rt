@@ -251,11 +251,21 @@ pub fn words_of(s: Strip) -> [u64; 19]
 
 // ---- what can be read back
 
+// Nearly all have the field of a normal f32 and no digit below an f32's.
 fn is_short(x: f64) -> bool
     ensures { λ r. ⌜ r ≡ isShort x ⌝ }
 {
+    let bits = casts::bits_of_f64(x);
+    if bits % 536870912 == 0 {
+        let field = bits / 4503599627370496 % 2048;
+        if 897 <= field {
+            if field < 1151 {
+                return true;
+            }
+        }
+    }
     let y = casts::widen(casts::narrow(x));
-    casts::bits_of_f64(y) == casts::bits_of_f64(x)
+    casts::bits_of_f64(y) == bits
 }
 
 fn is_nought(x: f64) -> bool

@@ -1,6 +1,6 @@
 -- What run owes where it declines, where it does not, and what its blocks may then rely on. Assumes nothing.
 use mathlib.Core.Path.{_≡_, sym, ap, subst⁻¹, _∙_}
-use mathlib.Core.Bool.{Bool}
+use mathlib.Core.Bool.{Bool, and-eq-true-iff}
 use Prim.Native.Nat.{ℕ, _+_, _*_, _≤_}
 use native.Mathlib.Omega.{arith}
 use mathlib.Core.List.{List}
@@ -21,7 +21,7 @@ use Rattle.strip.specs.Calls.{State, state, tapeIn, ceilingIn, listsIn, first, 
 use Rattle.strip.proofs.Opening.{passed}
 use Rattle.strip.proofs.Joined.{run-room}
 use Rattle.refusals.specs.Pieces.{stripFormed}
-use Rattle.refusals.proofs.Numbers.{fine, first-is, both, formed-apart, few-points}
+use Rattle.refusals.proofs.Numbers.{fine, first-is, formed-apart, few-points}
 use Rattle.blocks.specs.Run.{Runs, RanAll, ranAll, allRan}
 use Rattle.part.specs.Pieces.{went}
 
@@ -29,9 +29,9 @@ module _ (r : Rate) (st : State) (k : ℕ) (e : k ≡ first r st 0) where
   pub runs : RateUsable r → k ≡ 0 → Runs r st
   runs u z =
       let f = fine r st k e z in
-      let a = both (stripFormed (st .strip)) _ (sym (formed-apart r st) ∙ f .well) in
-      let b = both (okPoints (listsIn r st .positions) (listsIn r st .values)) _ (a .1) in
-      let c = both (duckFormed (duckOn (st .strip .tape .duck) (tapeIn r st .counts))) (wellFormed (r .ceiling) (ceilingIn r st)) (b .1) in
+      let a = and-eq-true-iff (stripFormed (st .strip)) _ .0 (sym (formed-apart r st) ∙ f .well) in
+      let b = and-eq-true-iff (okPoints (listsIn r st .positions) (listsIn r st .values)) _ .0 (a .1) in
+      let c = and-eq-true-iff (duckFormed (duckOn (st .strip .tape .duck) (tapeIn r st .counts))) (wellFormed (r .ceiling) (ceilingIn r st)) .0 (b .1) in
       let w : length (tapeIn r st .counts) ≡ 2048 = length-take-le tapeCounts (st .counts) (omega (arith, f .sized .wide, u .counts)) in
       record {
         long = f .sized .long;
@@ -58,7 +58,7 @@ module _ (r : Rate) (st : State) (k : ℕ) (e : k ≡ first r st 0) where
       unfolding runRefusal okOutputs
       run-outputs y =
           let a = passed (okOutputs (length xs) (length frames) (length gains)) _ 4 (sym f ∙ y) in
-          let b = both (eqb (length frames) (2 * length xs)) (eqb (length gains) (length xs)) (a .0) in
+          let b = and-eq-true-iff (eqb (length frames) (2 * length xs)) (eqb (length gains) (length xs)) .0 (a .0) in
           (eqb-true _ _ (b .0), eqb-true _ _ (b .1))
 
       pub run-done : j ≡ 0 → (s : Strip) (l : List Float) (u : List ℕ) (fs : List Float) (gs : List ℕ) (r′ : Rate) (d′ : Bool) (s′ : Strip) (l′ : List Float) (u′ : List ℕ) (xs′ : List Float)

@@ -2,16 +2,17 @@
 use mathlib.Core.Path.{_≡_}
 use mathlib.Core.Bool.{Bool, true, false, cond, _&&_, and-true, and-false}
 use mathlib.Core.List.{List}
-use Prim.Native.Nat.{ℕ, _+_, _*_, _/_, _%_, _≤_, _<_}
+use Prim.Native.Nat.{ℕ, _+_, _%_, _≤_, _<_}
 use native.Mathlib.Numerals.{add-one}
 use native.Mathlib.Nat.{add-zero}
 use native.Mathlib.Omega.{arith}
 use native.Mathlib.Decide.{decLt}
-use lib.Dec.{leb, eqb}
+use lib.Bits.{bitOr, or-lt, or-add-and, and-le-l, and-le-r}
+use lib.Dec.{leb, ltb, eqb}
 use lib.ListN.{length, drop, getD, drop-of-length-le}
 use lib.Seq.{drop-cons}
 use lib.Ieee.{Float, nan}
-use borrow.Author.Tests.{le-leb, lt-leb, ne-eqb}
+use borrow.Author.Tests.{le-leb, lt-leb, lt-ltb, le-ltb, ne-eqb}
 use Rattle.ranges.specs.Ranges.{inRange, allInRange, risingFrom}
 
 -- one test more
@@ -38,38 +39,55 @@ between b k m rest = elim (decLt k b) [
   | no f ↦ elim (decLt m k) [ yes g ↦ rw (lt-leb k m g, and-false (leb b k)) (and-false (leb b m)) | no g ↦ rw (le-leb b m (omega arith)) ]
 ]
 
--- so many differences add up to no more than an u64 holds
-share : (d : ℕ) → d < 18446744073709551616 → d / 8589934592 < 2147483648
-share d h = omega arith
+-- `REACH`: above any position, and no digit of it is lower
+abbrev pub reach : ℕ
+reach = 8589934592
 
-summed : (far q i n : ℕ) → far ≤ i * 2147483648 → i < n → n ≤ 65535 → q < 2147483648 → far + q < 18446744073709551616
-summed far q i n a b c d = omega arith
+-- of two numbers joined digit by digit neither is above, so both lie below a power of two where it does
+joined : (a b : ℕ) → ltb (bitOr a b) reach ≡ (ltb a reach && ltb b reach)
+joined a b =
+    let sum = or-add-and a b in
+    let left = and-le-l a b in
+    let right = and-le-r a b in
+    elim (decLt a reach) [
+      | yes f ↦ elim (decLt b reach) [
+        | yes g ↦ rw (lt-ltb (bitOr a b) reach (or-lt 33 a b f g), lt-ltb a reach f, lt-ltb b reach g)
+        | no g ↦ rw (le-ltb (bitOr a b) reach (omega arith), lt-ltb a reach f, le-ltb b reach (omega arith))
+      ]
+      | no f ↦ rw (le-ltb (bitOr a b) reach (omega arith), le-ltb a reach (omega arith))
+    ]
 
-pub room : (far d i n : ℕ) → far ≤ i * 2147483648 → i < n → n ≤ 65535 → d < 18446744073709551616 → far + d / 8589934592 < 18446744073709551616
-room far d i n a b c h = summed far (d / 8589934592) i n a b c (share d h)
+pub part-below : (n k d : ℕ) → bitOr (bitOr n k) d < reach → k < reach
+part-below n k d h =
+    let outer = or-add-and (bitOr n k) d in
+    let inner = or-add-and n k in
+    omega (arith, and-le-r (bitOr n k) d, and-le-l n k)
 
--- d is k - b, wrapped; b has no topmost bit where nothing was far before
-apart : (b k n d : ℕ) (rest : Bool) → (d + b) % 18446744073709551616 ≡ k → d < 18446744073709551616 → (n ≡ 0 → b < 9223372036854775808) → (eqb (n + d / 8589934592) 0 && (leb k 4294967296 && rest)) ≡ (eqb n 0 && (leb b k && (leb k 4294967296 && rest)))
-apart b k n d rest e fits h = elim (decLt 4294967296 k) [
-  | yes f ↦ rw (lt-leb k 4294967296 f, and-false (leb b k), and-false (eqb n 0)) (and-false (eqb (n + d / 8589934592) 0))
-  | no f ↦ elim (decLt 0 n) [
-    | yes g ↦ rw (ne-eqb (n + d / 8589934592) 0 (λ z. omega arith), ne-eqb n 0 (λ z. omega arith))
-    | no g ↦
-        let z : n ≡ 0 = omega arith in
-        let low : b < 9223372036854775808 = h z in
-        elim (decLt k b) [
-          | yes j ↦ rw (ne-eqb (n + d / 8589934592) 0 (λ y. omega arith), lt-leb b k j, and-false (eqb n 0))
-          | no j ↦ let near : n + d / 8589934592 ≡ n = omega arith in rw (near, le-leb b k (omega arith))
-        ]
-  ]
-]
+-- d is k - b, wrapped
+apart : (b k n d : ℕ) (rest : Bool) → (d + b) % 18446744073709551616 ≡ k → d < 18446744073709551616 → (n < reach → b < reach)
+    → (ltb (bitOr (bitOr n k) d) reach && (leb k 4294967296 && rest)) ≡ (ltb n reach && (leb b k && (leb k 4294967296 && rest)))
+apart b k n d rest e fits h =
+    rw (joined (bitOr n k) d, joined n k)
+    (elim (decLt 4294967296 k) [
+      | yes f ↦ rw (lt-leb k 4294967296 f, and-false (leb b k), and-false (ltb n reach)) (and-false ((ltb n reach && ltb k reach) && ltb d reach))
+      | no f ↦ elim (decLt n reach) [
+        | no g ↦ rw (le-ltb n reach (omega arith))
+        | yes g ↦
+            let low : b < reach = h g in
+            elim (decLt k b) [
+              | yes j ↦ rw (lt-ltb n reach g, lt-ltb k reach (omega arith), le-ltb d reach (omega arith), lt-leb b k j)
+              | no j ↦ rw (lt-ltb n reach g, lt-ltb k reach (omega arith), lt-ltb d reach (omega arith), le-leb b k (omega arith))
+            ]
+      ]
+    ])
 
 module _ (l : List ℕ) (b i n : ℕ) where
-  pub rising-more : (d : ℕ) → i < length l → (d + b) % 18446744073709551616 ≡ getD l i 0 → d < 18446744073709551616 → (n ≡ 0 → b < 9223372036854775808)
-      → (eqb (n + d / 8589934592) 0 && (leb (getD l i 0) 4294967296 && risingFrom (getD l i 0) (drop (i + 1) l))) ≡ (eqb n 0 && (leb b 4294967296 && risingFrom b (drop i l)))
+  pub rising-more : (d : ℕ) → i < length l → (d + b) % 18446744073709551616 ≡ getD l i 0 → d < 18446744073709551616 → (n < reach → b < reach)
+      → (ltb (bitOr (bitOr n (getD l i 0)) d) reach && (leb (getD l i 0) 4294967296 && risingFrom (getD l i 0) (drop (i + 1) l)))
+      ≡ (ltb n reach && (leb b 4294967296 && risingFrom b (drop i l)))
   unfolding risingFrom
   rising-more d h e fits low = rw (apart b (getD l i 0) n d _ e fits low, drop-cons l i 0 h, add-one i, between b (getD l i 0) 4294967296)
 
-  pub rising-done : length l ≤ i → (eqb n 0 && leb b 4294967296) ≡ (eqb n 0 && (leb b 4294967296 && risingFrom b (drop i l)))
+  pub rising-done : length l ≤ i → (ltb n reach && leb b 4294967296) ≡ (ltb n reach && (leb b 4294967296 && risingFrom b (drop i l)))
   unfolding risingFrom
   rising-done h = rw (drop-of-length-le l h, and-true (leb b 4294967296))

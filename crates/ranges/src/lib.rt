@@ -3,7 +3,6 @@
 ghost use mathlib.Core.Path.{_≡_};
 ghost use mathlib.Core.Bool.{cond};
 ghost use Prim.Native.Nat.{_≤_};
-ghost use lib.ListN.{length};
 ghost use Rattle.ranges.specs.Ranges.{inRange, allInRange, risingFrom};
 
 // The last position.
@@ -34,25 +33,24 @@ pub fn all_in_range(lo: f64, hi: f64, list: &[f64]) -> bool
     outside == 0
 }
 
-// Farther than any position lies from another.
+// Above any position, a power of two.
 const REACH: u64 = 8589934592;
 
-// Whether a list of positions never falls and has none above 2^32. Where it falls, or leaves that range, a position less the one before it is
-// REACH or more, wrapped: a difference takes less than a comparison, since SSE2 cannot compare two u64 at once.
+// Whether a list of positions never falls and has none above 2^32. Where it falls, a position less the one before it is REACH or more, wrapped. All
+// positions and differences go into one word: SSE2 cannot compare two u64 at once.
 pub fn rising(list: &[u64]) -> bool
-    requires { ⌜ length (now list) ≤ 65535 ⌝ }
     ensures { λ r. ⌜ r ≡ risingFrom 0 (now (list .entry)) ⌝ }
 {
-    let mut far: u64 = 0;
+    let mut joined: u64 = 0;
     let mut least: u64 = 0;
     let mut i: usize = 0;
     while i < list.len() {
         let k = list[i];
-        far += std::num::wrapping_sub_u64(k, least) / REACH;
+        joined = joined | k | std::num::wrapping_sub_u64(k, least);
         least = k;
         i += 1;
     }
-    if far != 0 {
+    if REACH <= joined {
         return false;
     }
     least <= LAST

@@ -1,6 +1,6 @@
 -- The refusals' numbers, and what is known once they decline nothing. Assumes nothing.
 use mathlib.Core.Path.{_≡_, refl, sym, ap, _∙_}
-use mathlib.Core.Bool.{Bool, true, false, cond, _&&_}
+use mathlib.Core.Bool.{Bool, true, false, cond, _&&_, and-eq-true-iff}
 use Prim.Native.Nat.{ℕ, suc, _≤_}
 use native.Mathlib.Omega.{arith}
 use mathlib.Core.List.{List}
@@ -20,25 +20,15 @@ use Rattle.strip.specs.Refusals.{furthest, longEnough, okSetup, okRamp, okPoint
 use Rattle.strip.specs.Calls.{State, tapeIn, ceilingIn, listsIn, formed, first}
 use Rattle.refusals.specs.Pieces.{stripFormed}
 use Rattle.rate.specs.Rate.{Sized}
+use Rattle.strip.proofs.Opening.{passed}
 
 -- ---- tests joined
-pub both : (a b : Bool) → a && b ≡ true → (a ≡ true) × (b ≡ true)
-both true b e = (refl, e)
-both false b e = let z : _≡_ {A = Bool} false true = e in absurd (no z)
-  where
-    no : _≡_ {A = Bool} false true → ⊥
-    no e = let z : _≡_ {A = ℕ} 0 1 = ap (λ (b : Bool). cond b 1 0) e in omega arith
-
 five : (a b c d e f : Bool) → a && (b && (c && (d && (e && f)))) ≡ (a && (b && (c && (d && e)))) && f
 five true true true true e f = refl
 five true true true false e f = refl
 five true true false d e f = refl
 five true false c d e f = refl
 five false b c d e f = refl
-
-passed : (b : Bool) (x k : ℕ) → cond b x (suc k) ≡ 0 → (b ≡ true) × (x ≡ 0)
-passed true x k e = (refl, e)
-passed false x k e = absurd (omega arith)
 
 -- ---- refusal 4
 module _ (r : Rate) (st : State) where
@@ -52,17 +42,17 @@ module _ (r : Rate) (st : State) where
 pub few-points : (s : Strip) → stripFormed s ≡ true → s .points ≤ 256
 unfolding stripFormed
 few-points s e =
-    let a = both (leb (s .position) furthest) _ e in
-    let b = both (okRamp (s .daylight)) _ (a .1) in
-    let c = both (okRamp (s .rain)) _ (b .1) in
-    let d = both (okSetup (s .setup)) (leb (s .points) 256) (c .1) in
+    let a = and-eq-true-iff (leb (s .position) furthest) _ .0 e in
+    let b = and-eq-true-iff (okRamp (s .daylight)) _ .0 (a .1) in
+    let c = and-eq-true-iff (okRamp (s .rain)) _ .0 (b .1) in
+    let d = and-eq-true-iff (okSetup (s .setup)) (leb (s .points) 256) .0 (c .1) in
     leb-true (s .points) 256 (d .1)
 
 -- ---- 1 and 4
 pub sized-is : (r : Rate) (l : List Float) (u : List ℕ) → longEnough r l u ≡ true → Sized r l u
 unfolding longEnough
 sized-is r l u e =
-    let a = both (leb (r .samples) (length l)) (leb (r .counts) (length u)) e in
+    let a = and-eq-true-iff (leb (r .samples) (length l)) (leb (r .counts) (length u)) .0 e in
     record { long = leb-true (r .samples) (length l) (a .0); wide = leb-true (r .counts) (length u) (a .1) }
 
 module _ (r : Rate) (st : State) where
@@ -111,10 +101,10 @@ module _ (r : Rate) (s : Setup) (l : Lists) (store : List Float) (counts : List 
       let a = passed (longEnough r store counts) (cond (okSetup s) (cond (okLists l) 0 3) 2) 0 (sym e ∙ z) in
       let b = passed (okSetup s) (cond (okLists l) 0 3) 1 (a .1) in
       let c = passed (okLists l) 0 2 (b .1) in
-      let d = both (okPoints (l .positions) (l .values)) (okKicks (l .kicks)) (c .0) in
-      let p = both (leb (length (l .positions)) 256) _ (d .0) in
-      let v = both (eqb (length (l .positions)) (length (l .values))) (risingFrom 0 (l .positions) && allInRange nought one (l .values)) (p .1) in
-      let f = both (leb (length (l .kicks)) 1024) _ (d .1) in
+      let d = and-eq-true-iff (okPoints (l .positions) (l .values)) (okKicks (l .kicks)) .0 (c .0) in
+      let p = and-eq-true-iff (leb (length (l .positions)) 256) _ .0 (d .0) in
+      let v = and-eq-true-iff (eqb (length (l .positions)) (length (l .values))) (risingFrom 0 (l .positions) && allInRange nought one (l .values)) .0 (p .1) in
+      let f = and-eq-true-iff (leb (length (l .kicks)) 1024) _ .0 (d .1) in
       let few = leb-true (length (l .positions)) 256 (p .0) in
       let same = eqb-true (length (l .positions)) (length (l .values)) (v .0) in
       record { sized = sized-is r store counts (a .0); points = few; values = omega arith; kicks = leb-true (length (l .kicks)) 1024 (f .0) }

@@ -2,10 +2,12 @@
 use mathlib.Core.Path.{_≡_}
 use Prim.Native.Nat.{ℕ, _-_, _<_, _≤_}
 use native.Mathlib.Omega.{arith}
-use borrow.Author.Tests.{lt-ltb, le-ltb}
+use mathlib.Core.Bool.{true, and-eq-true-iff}
+use lib.Dec.{leb, ltb}
+use borrow.Author.Tests.{leb-true, ltb-true, lt-ltb, le-ltb}
 use Rattle.casts.specs.Arithmetic.{_⊕_, _⊖_, _⊗_, _⊘_, whole, one}
 use Rattle.sidechain.specs.declared.DuckRate.{DuckRate}
-use Rattle.sidechain.specs.Sidechain.{span, sidechainGain}
+use Rattle.sidechain.specs.Sidechain.{span, sidechainGain, releases}
 
 module _ (r : DuckRate) (since : ℕ) where
   pub gain-attacking : since < r .attack → one ⊖ (one ⊖ r .floor) ⊗ whole since ⊘ whole (r .attack) ≡ sidechainGain r since
@@ -19,3 +21,11 @@ module _ (r : DuckRate) (since : ℕ) where
   pub gain-released : r .attack ≤ since → r .release ≤ since - r .attack → one ≡ sidechainGain r since
   unfolding sidechainGain
   gain-released a h = let k : span r ≤ since = omega arith in rw (le-ltb since (r .attack) a, le-ltb since (span r) k)
+
+  -- a kick that releases
+  pub releases-says : releases r since ≡ true → (r .attack ≤ since) × (since - r .attack < r .release) × (since - r .attack < 4294967296)
+  unfolding releases
+  releases-says e =
+      let a = and-eq-true-iff (leb (r .attack) since) _ .0 e in
+      let b = and-eq-true-iff (ltb (since - r .attack) (r .release)) _ .0 (a .1) in
+      (leb-true _ _ (a .0), ltb-true _ _ (b .0), ltb-true _ _ (b .1))

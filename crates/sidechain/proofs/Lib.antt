@@ -1,1 +1,2 @@
 mod Gain
+mod Placed

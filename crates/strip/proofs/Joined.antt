@@ -1,6 +1,6 @@
 -- Demand 3, for every list of calls: what the strip answers is what the one-sample machine answers (specs/Promise.antt, `Joined`, `JoinedAre`). Assumes nothing.
 use mathlib.Core.Path.{_≡_, refl, sym, ap, subst, subst⁻¹, _∙_}
-use mathlib.Core.Bool.{Bool, true, false, cond}
+use mathlib.Core.Bool.{Bool, true, false, cond, and-eq-true-iff}
 use Prim.Native.Nat.{ℕ, _+_, _≤_}
 use native.Mathlib.Omega.{arith}
 use mathlib.Core.List.{List, [], _∷_, _++_, map, append-assoc}
@@ -21,7 +21,7 @@ use Rattle.strip.specs.Refusals.{furthest, okUnit, okOutputs, okEnd, okS
 use Rattle.strip.specs.Machine.{Machine, Event, sample, fresh, stepped, latched, fed, fedAll, delivers, heardFrom}
 use Rattle.strip.specs.Calls.{State, state, openedState, OpenDone, openCall, runCall, latchCall, restCall}
 use Rattle.strip.specs.Promise.{Call, run, move, ask, declined, answerTo, after, through, refusal, eventsOf, feeds, accepted, says, expected, Joined, framesIn, countsIn, joinedFrames, joinedCounts, takes, joinedEvents, JoinedAre}
-use Rattle.strip.proofs.Opening.{both-true, passed, opens, open-stands}
+use Rattle.strip.proofs.Opening.{passed, opens, open-stands}
 use Rattle.strip.proofs.Related.{Stands, none-first, run-stands, run-heard, latch-stands, same-rest}
 
 -- ---- one call
@@ -37,9 +37,9 @@ latch-room : (c : Controls) → latchRefusal c ≡ 0 → (c .grading ≤ furthes
 unfolding latchRefusal okControls
 latch-room c e =
     let a = passed (okControls c) 0 7 e in
-    let b = both-true (okUnit (c .daylight)) _ (a .0) in
-    let d = both-true (okUnit (c .rain)) _ (b .1) in
-    let f = both-true (leb (c .grading) furthest) _ (d .1) in
+    let b = and-eq-true-iff (okUnit (c .daylight)) _ .0 (a .0) in
+    let d = and-eq-true-iff (okUnit (c .rain)) _ .0 (b .1) in
+    let f = and-eq-true-iff (leb (c .grading) furthest) _ .0 (d .1) in
     (leb-true _ _ (f .0), leb-true _ _ (f .1))
 
 pub record Same (r : Rate) (m : Machine) (st : State) (c : Call) : Type 0 where

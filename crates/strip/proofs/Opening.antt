@@ -1,6 +1,6 @@
 -- What open leaves stands to the fresh machine. Assumes nothing.
 use mathlib.Core.Path.{_≡_, refl, sym, ap, subst⁻¹, _∙_}
-use mathlib.Core.Bool.{Bool, true, false, cond, _&&_}
+use mathlib.Core.Bool.{Bool, true, false, cond, _&&_, and-eq-true-iff}
 use Prim.Native.Nat.{ℕ, suc, _+_, _≤_}
 use native.Mathlib.Omega.{arith}
 use mathlib.Core.List.{List, _++_}
@@ -38,10 +38,6 @@ use Rattle.strip.proofs.Related.{Stands, listed}
 
 -- ---- what passing refusals 1, 2 and 3 tells
 
-pub both-true : (a b : Bool) → a && b ≡ true → (a ≡ true) × (b ≡ true)
-both-true true b e = (refl, e)
-both-true false b e = let z : _≡_ {A = ℕ} 0 1 = cc in absurd (omega arith)
-
 pub passed : (b : Bool) (x k : ℕ) → cond b x (suc k) ≡ 0 → (b ≡ true) × (x ≡ 0)
 passed true x k e = (refl, e)
 passed false x k e = absurd (omega arith)
@@ -62,11 +58,11 @@ opens r s l store counts e =
     let a = passed _ _ 0 e in
     let b = passed _ _ 1 (a .1) in
     let c = passed _ _ 2 (b .1) in
-    let w = both-true _ _ (a .0) in
-    let p = both-true _ _ (c .0) in
-    let q = both-true _ _ (p .0) in
-    let v = both-true _ _ (q .1) in
-    let k = both-true _ _ (p .1) in
+    let w = and-eq-true-iff _ _ .0 (a .0) in
+    let p = and-eq-true-iff _ _ .0 (c .0) in
+    let q = and-eq-true-iff _ _ .0 (p .0) in
+    let v = and-eq-true-iff _ _ .0 (q .1) in
+    let k = and-eq-true-iff _ _ .0 (p .1) in
     record {
       long = leb-true _ _ (w .0);
       wide = leb-true _ _ (w .1);

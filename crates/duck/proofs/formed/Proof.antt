@@ -2,7 +2,7 @@ use borrow.Author.Tests.{le-leb, lt-leb}
 use mathlib.Core.Path.{sym}
 use Rattle.duck.specs.Cursors.{duckFormed}
 use Rattle.duck.proofs.Loops.{kicks-length}
-use native.Mathlib.Omega.{arith}
+use borrow.Author.Needs.{needs}
 use Rattle.duck.proofs.formed.Statement.{statement}
 use Rattle.duck.proofs.formed.Tie as tie
 
@@ -24,10 +24,7 @@ slice-aggregate-rising c =
     sym (kicks-length (s .args .duck .count) (s .args .counts .now) (c .before .before .before .before .before .if1 .left) (s .pre))
 
 rising-requires : tie.Need-rising-requires
-rising-requires c κs =
-    let s = c .before .before .before .before .before .before .before in
-    let few = c .before .before .before .before .before .if1 .left in
-    omega (arith, kicks-length (s .args .duck .count) (s .args .counts .now) few (s .pre), few)
+rising-requires c κs = search needs
 
 returns-4 : tie.Need-returns-4
 unfolding duckFormed
