@@ -44,7 +44,7 @@ loop-again c =
     let d = c .wrapping-sub-u64 in
     let fits : d .result < 18446744073709551616 = omega arith in (
       search needs,
-      part-below (l .joined) _ (d .result),
+      λ h. omega (arith, part-below (l .joined) _ (d .result) h),
       rising-more (s .args .list .now) (l .least) (l .i) (l .joined) (d .result) (c .before .before .loop-test .taken) (d .ensures) fits (l .inv .1) ∙ l .inv .2,
     )
 
