@@ -152,8 +152,8 @@ placed s b lo hi z =
     let m = b / 536870912 - 7516192768 in
     let least : 8388608 ≤ m = omega arith in
     let most : m < 2139095040 = omega arith in
-    let back : (m / 8388608 + 895) * 4503599627370496 + (m % 8388608 + 8388608) * 536870912 ≡ b = omega arith in
-    let same = subst (λ (r : ℕ). ofBits binary64 (signed binary64 s r) ≡ ofBits binary32 (signed binary32 s m)) back (widens-mid m least most .same s) in
+    let back : (m + 7516192768) * 536870912 ≡ b = omega arith in
+    let same = subst (λ (r : ℕ). ofBits binary64 (signed binary64 s r) ≡ ofBits binary32 (signed binary32 s m)) back (widens-whole m least most .same s) in
     subst (λ (v : Float). T (fits binary32 v)) (sym same) (ofBits-fits binary32 (signed binary32 s m))
 
 pub fits-short : (b : ℕ) → b < 18446744073709551616 → 897 ≤ b / 4503599627370496 % 2048 → b / 4503599627370496 % 2048 < 1151 → b % 536870912 ≡ 0 → T (fits binary32 (ofBits binary64 b))

@@ -110,7 +110,7 @@ fn times_gain(rate: DuckRate, gain: f64, since: u64, mark: u64) -> f64
     gain * sidechain::sidechain_gain(rate, since)
 }
 
-// Two marked kicks that release more in the product: their gains do not wait for each other.
+// Two kicks more in the product, both marked and releasing: their gains do not wait for each other.
 fn times_two(rate: DuckRate, gain: f64, first: u64, second: u64) -> f64
     requires { ⌜ (releases rate first ≡ true) × (releases rate second ≡ true) ⌝ }
     ensures { λ r. ⌜ r ≡ timesGain rate (timesGain rate gain first true) second true ⌝ }

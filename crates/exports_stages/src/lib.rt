@@ -18,17 +18,18 @@ use ramp::Shape;
 use rate::CeilingRate;
 use rate::PlateRate;
 use rate::TapeRate;
+use rate::places;
 use tape::Tape;
 use tape::TapeSetup;
 
 // The places of each stage's parts.
-const WARP: usize = 64;
+const WARP: usize = TapeRate::WARP;
 
 const LINES: usize = 47104;
 
-const LATE: usize = 1323;
+const LATE: usize = CeilingRate::WINDOW + 1 + 2 * CeilingRate::AHEAD;
 
-const STEPS: usize = 1104;
+const STEPS: usize = CeilingRate::WINDOW + 1 + (CeilingRate::AHEAD + 1);
 
 fn silence(part: &mut [f64]) {
     let mut i: usize = 0;
@@ -93,7 +94,7 @@ fn lane_fits(ring: usize, counts: usize, duck: Duck, n: u64, len: usize) -> bool
     if ring != WARP {
         return false;
     }
-    if counts < 2048 {
+    if counts < places::DUCK {
         return false;
     }
     if 1024 < duck.count {
@@ -329,7 +330,7 @@ pub extern "C" fn goqhari_test_tape(
     if 1024 < kicks.len() {
         return false;
     }
-    if counts.len() < 2048 {
+    if counts.len() < places::DUCK {
         return false;
     }
     silence(ring);

@@ -39,11 +39,11 @@ between b k m rest = elim (decLt k b) [
   | no f ↦ elim (decLt m k) [ yes g ↦ rw (lt-leb k m g, and-false (leb b k)) (and-false (leb b m)) | no g ↦ rw (le-leb b m (omega arith)) ]
 ]
 
--- `REACH`: above any position, and no digit of it is lower
+-- `REACH`: above any position, a power of two
 abbrev pub reach : ℕ
 reach = 8589934592
 
--- of two numbers joined digit by digit neither is above, so both lie below a power of two where it does
+-- two numbers joined digit by digit lie below a power of two just where both do
 joined : (a b : ℕ) → ltb (bitOr a b) reach ≡ (ltb a reach && ltb b reach)
 joined a b =
     let sum = or-add-and a b in
