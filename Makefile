@@ -7,6 +7,11 @@
 # rt starts so many checks and waits for all of them: one more than two processors, so that neither waits for the last of two.
 export RT_JOBS ?= 3
 
+# rattle writes thousands of small files in each check, and making one on a disk takes longer than in memory.
+ifndef TMPDIR
+export TMPDIR := $(shell .ci/room)
+endif
+
 test:
 	rt fmt --check
 	harness/compare 1 20
