@@ -1,16 +1,17 @@
--- A list of calls through the library is answered as the machine says: the packed strip reads back as the strip that the call before gave. Assumes nothing.
+-- Demand 3 for C (specs/Promise.antt): the packed strip reads back as the strip that the call before gave, so that a list of calls through the library is answered as the strip's own. Assumes nothing.
 use mathlib.Core.Path.{_≡_, refl, sym, ap, _∙_, subst}
 use Prim.Native.Nat.{ℕ, _+_, _/_, _%_}
 use native.Mathlib.Omega.{arith}
 use mathlib.Core.Bool.{Bool, true, false, cond, _&&_, true≢false}
-use mathlib.Core.List.{List, [], _∷_}
+use mathlib.Core.List.{List, [], _∷_, map}
 use lib.Dec.{leb, eqb}
 use lib.ListN.{length, drop}
 use lib.Ieee.{Float}
 use borrow.Author.Tests.{eq-eqb}
 use Rattle.stage.specs.Stage.{ran}
 use Rattle.rate.specs.declared.Rate.{Rate}
-use Rattle.rate.specs.Rate.{RateUsable}
+use Rattle.rate.specs.Rate.{rateOf, RateUsable}
+use Rattle.rate.proofs.Rates.{usable-44100}
 use Rattle.tape.specs.Tape.{Lists}
 use Rattle.strip.specs.declared.Setup.{Setup}
 use Rattle.strip.specs.declared.Controls.{Controls}
@@ -25,15 +26,17 @@ use Rattle.strip.specs.Refusals.{longEnough, runRefusal, latchRefusal, openRefu
 use Rattle.master.specs.Kept.{framesOut, countsOut}
 use Rattle.part.specs.Pieces.{went}
 use Rattle.strip.specs.Calls.{State, state, stepOn, ranOn, heardOn, first, restingOn, OpenDone, RunDone, openedStrip, openedState, openCall, runCall, latchedStrip, latchCall, restCall}
-use Rattle.strip.specs.Promise.{Call, run, move, ask, Answer, stripOf, runAnswer, moveAnswer, restAnswer, answerTo, after, through, Joined}
-use Rattle.strip.proofs.Joined.{joined}
+use Rattle.strip.specs.Machine.{fresh}
+use Rattle.strip.specs.Promise.{ask, Answer, stripOf, restStrip, runAnswer, moveAnswer, restAnswer, answerTo, after, through, expected}
+use Rattle.strip.proofs.Joined.{answered}
+use Rattle.strip.proofs.Demand3.{joined-of}
 use Rattle.packing.specs.declared.Unpacked as unpack
-use Rattle.packing.specs.Packing.{numbersLong, wordsLong, flagged, packedNumbers, packedWords, unpacked}
+use Rattle.packing.specs.Packing.{numbersLong, wordsLong, packedNumbers, packedWords, unpacked}
 use Rattle.packing.specs.Inverse.{Single, ToneSingle, PadSingle, Singles}
 use Rattle.packing.proofs.Inverse.{inverse, flag-is}
 use Rattle.setup.specs.Setup.{numberAt, setupOf, toneOf, padOf, tapeSetupOf}
 use Rattle.goqhari.specs.Library.{Back, back, packedBack, openedBack, outcomeBack, declinedBy, Opening, opening, openDone, libraryOpen, drumming, running, runDone, runFrom, libraryRun, latchFrom, libraryLatch, restedBack, restFrom, libraryRest}
-use Rattle.goqhari.specs.Promise.{Lent, lent, runSays, latchSays, restSays, answerOf, runLeaves, leftBy, answersOf, openLeaves, LibraryJoined}
+use Rattle.goqhari.specs.Promise.{LibraryCall, run, latch, rest, callOf, Lent, lent, runSays, latchSays, restSays, answerOf, runLeaves, leftBy, answersOf, openLeaves, LibraryJoinedAt, LibraryDemand3}
 
 -- ---- what an outcome is: a refusal's number is not 0 and hands the strip back; else the setup is kept
 
@@ -118,7 +121,7 @@ latch-said s (Declined n t) ns ws k = rw (k .0)
 
 abbrev Refuses : Rested → Type 0
 Refuses (rested.the-variants.Rests b) = Unit {0}
-Refuses (rested.the-variants.Declined k) = eqb k 0 ≡ false
+Refuses (rested.the-variants.Declined k s) = eqb k 0 ≡ false
 
 rest-either : (b : Bool) (x y : Rested) → Refuses x → (b ≡ false → Refuses y) → Refuses (cond b x y)
 rest-either true x y h k = h
@@ -126,46 +129,53 @@ rest-either false x y h k = k refl
 
 rest-refuses : (r : Rate) (st : State) → Refuses (restCall r st)
 unfolding restCall
-rest-refuses r st = let k = first r st 0 in rest-either (eqb k 0) (rested.the-variants.Rests (restingOn r st)) (rested.the-variants.Declined k) tt (λ e. e)
+rest-refuses r st = let k = first r st 0 in rest-either (eqb k 0) (rested.the-variants.Rests (restingOn r st)) (rested.the-variants.Declined k (st .strip)) tt (λ e. e)
 
-rest-said : (a : Rested) → Refuses a → restSays (restedBack a (0 ∷ [])) ≡ restAnswer a
+rest-said : (a : Rested) → Refuses a → (was : ℕ) → restSays (restedBack a (was ∷ [])) ≡ restAnswer a
 unfolding restSays restedBack
-rest-said (rested.the-variants.Rests b) k = rw (flag-is b)
-rest-said (rested.the-variants.Declined n) k = rw k
+rest-said (rested.the-variants.Rests b) k was = rw (flag-is b)
+rest-said (rested.the-variants.Declined n s) k was = rw k
 
-drums-told : (d : Bool) → drumming (flagged d) ≡ d
-unfolding drumming flagged
-drums-told true = refl
-drums-told false = refl
+-- rest changes nothing: declined, it hands back the strip that it was lent
+rest-strip : (s : strips.Strip) (b c : Bool) (k : ℕ) → restStrip s (cond c (rested.the-variants.Rests b) (rested.the-variants.Declined k s)) ≡ s
+rest-strip s b true k = refl
+rest-strip s b false k = refl
+
+rest-leaves : (r : Rate) (st : State) → after r st ask ≡ st
+unfolding after restCall
+rest-leaves r st = ap (λ (s : strips.Strip). state s (st .store) (st .counts)) (rest-strip (st .strip) (restingOn r st) (eqb (first r st 0) 0) (first r st 0))
 
 -- ---- one call
 
 module _ (r : Rate) (m : Lent) (st : State) (h : Holds m st) where
-  library-run : (xs : List Float) (d : Bool) (frames : List Float) (gains : List ℕ)
-      → libraryRun r (m .numbers) (m .words) xs (flagged d) (m .store) (m .counts) frames gains ≡ runDone (runCall r st xs d frames gains) (m .numbers) (m .words)
+  library-run : (xs : List Float) (drums : ℕ) (frames : List Float) (gains : List ℕ)
+      → libraryRun r (m .numbers) (m .words) xs drums (m .store) (m .counts) frames gains ≡ runDone (runCall r st xs (drumming drums) frames gains) (m .numbers) (m .words)
   unfolding libraryRun runFrom
-  library-run xs d frames gains = rw (h .strip) (rw (drums-told d) (rw (h .store) (rw (h .counts))))
+  library-run xs drums frames gains = rw (h .strip) (rw (h .store) (rw (h .counts)))
 
   library-latch : (c : Controls) → libraryLatch r (m .numbers) (m .words) c (m .store) (m .counts) ≡ outcomeBack (latchCall r st c) (m .numbers) (m .words)
   unfolding libraryLatch latchFrom
   library-latch c = rw (h .strip) (rw (h .store) (rw (h .counts)))
 
-  library-rest : libraryRest r (m .numbers) (m .words) (0 ∷ []) (m .store) (m .counts) ≡ restedBack (restCall r st) (0 ∷ [])
+  library-rest : (was : ℕ) → libraryRest r (m .numbers) (m .words) (was ∷ []) (m .store) (m .counts) ≡ restedBack (restCall r st) (was ∷ [])
   unfolding libraryRest restFrom
-  library-rest = rw (h .strip) (rw (h .store) (rw (h .counts)))
+  library-rest was = rw (h .strip) (rw (h .store) (rw (h .counts)))
 
-  answer-is : (c : Call) → answerOf r m c ≡ answerTo r st c
+  answer-is : (c : LibraryCall) → answerOf r m c ≡ answerTo r st (callOf c)
   unfolding answerOf answerTo
-  answer-is (run xs d frames gains) = ap runSays (library-run xs d frames gains) ∙ run-said (st .strip) (runCall r st xs d frames gains) (m .numbers) (m .words) (run-tells r st xs d frames gains)
-  answer-is (move c) = ap latchSays (library-latch c) ∙ latch-said (st .strip) (latchCall r st c) (m .numbers) (m .words) (latch-tells r st c)
-  answer-is ask = ap restSays library-rest ∙ rest-said (restCall r st) (rest-refuses r st)
+  answer-is (run xs drums frames gains) =
+      let d = drumming drums in
+      ap runSays (library-run xs drums frames gains) ∙ run-said (st .strip) (runCall r st xs d frames gains) (m .numbers) (m .words) (run-tells r st xs d frames gains)
+  answer-is (latch c) = ap latchSays (library-latch c) ∙ latch-said (st .strip) (latchCall r st c) (m .numbers) (m .words) (latch-tells r st c)
+  answer-is (rest was) = ap restSays (library-rest was) ∙ rest-said (restCall r st) (rest-refuses r st) was
 
-  left-holds : (c : Call) → Holds (leftBy r m c) (after r st c)
+  left-holds : (c : LibraryCall) → Holds (leftBy r m c) (after r st (callOf c))
   unfolding leftBy after runDone
-  left-holds (run xs d frames gains) =
+  left-holds (run xs drums frames gains) =
+      let d = drumming drums in
       let o = runCall r st xs d frames gains in
       let t = run-tells r st xs d frames gains in
-      subst (λ (q : Lent). Holds q (state (stripOf (o .answer)) (o .store) (o .counts))) (ap runLeaves (sym (library-run xs d frames gains))) (ran-holds o t)
+      subst (λ (q : Lent). Holds q (state (stripOf (o .answer)) (o .store) (o .counts))) (ap runLeaves (sym (library-run xs drums frames gains))) (ran-holds o t)
     where
       ran-holds : (o : RunDone) → Tells (st .strip) (o .answer) → Holds (runLeaves (runDone o (m .numbers) (m .words))) (state (stripOf (o .answer)) (o .store) (o .counts))
       ran-holds o t =
@@ -175,7 +185,7 @@ module _ (r : Rate) (m : Lent) (st : State) (h : Holds m st) where
             store = refl;
             counts = refl;
           }
-  left-holds (move c) =
+  left-holds (latch c) =
       let o = latchCall r st c in
       let t = latch-tells r st c in
       subst (λ (b : Back). Holds (lent (b .numbers) (b .words) (m .store) (m .counts)) (state (stripOf o) (st .store) (st .counts))) (sym (library-latch c))
@@ -185,15 +195,16 @@ module _ (r : Rate) (m : Lent) (st : State) (h : Holds m st) where
         store = h .store;
         counts = h .counts;
       })
-  left-holds ask = h
+  left-holds (rest was) = subst (λ (s : State). Holds m s) (sym (rest-leaves r st)) h
 
 -- ---- a list of calls
 
-answers-are : (r : Rate) (m : Lent) (st : State) → Holds m st → (cs : List Call) → answersOf r m cs ≡ through r st cs
+answers-are : (r : Rate) (m : Lent) (st : State) → Holds m st → (cs : List LibraryCall) → answersOf r m cs ≡ through r st (map callOf cs)
 unfolding answersOf through
 answers-are r m st h [] = refl
 answers-are r m st h (c ∷ cs) =
-    ap (λ (a : Answer). a ∷ answersOf r (leftBy r m c) cs) (answer-is r m st h c) ∙ ap (λ (l : List Answer). answerTo r st c ∷ l) (answers-are r (leftBy r m c) (after r st c) (left-holds r m st h c) cs)
+    ap (λ (a : Answer). a ∷ answersOf r (leftBy r m c) cs) (answer-is r m st h c)
+    ∙ ap (λ (l : List Answer). answerTo r st (callOf c) ∷ l) (answers-are r (leftBy r m c) (after r st (callOf c)) (left-holds r m st h c) cs)
 
 -- ---- open
 
@@ -267,12 +278,23 @@ module _ (r : Rate) (s : Setup) (l : Lists) (ns : List Float) (ws : List ℕ) (s
   opens-by true false z = absurd (declined-not (longEnough r store counts) z)
   opens-by false b z = let y : _≡_ {A = ℕ} 1 0 = z in absurd (omega (arith, y))
 
-pub library-joined : (r : Rate) → RateUsable r → LibraryJoined r
-unfolding LibraryJoined libraryOpen Joined
-library-joined r u singles doubles flags l ns ws store counts f z cs =
+library-answers : (r : Rate) → RateUsable r → (singles doubles : List Float) (flags : ℕ) (l : Lists) (ns : List Float) (ws : List ℕ) (store : List Float) (counts : List ℕ)
+    → ((k : ℕ) → Single (numberAt singles k)) → libraryOpen r singles doubles flags l ns ws store counts .back .answer ≡ 0
+    → (cs : List LibraryCall) → answersOf r (openLeaves (libraryOpen r singles doubles flags l ns ws store counts)) cs ≡ expected r (fresh r (setupOf singles doubles flags) l) (map callOf cs)
+unfolding libraryOpen
+library-answers r u singles doubles flags l ns ws store counts f z cs =
     let s = setupOf singles doubles flags in
     let o = opens-by r s l ns ws store counts (leb numbersLong (length ns) && leb wordsLong (length ws)) (leb flags 15) z in
     let h = setup-singles singles doubles flags f (o .strip) (o .setup) in
     ap (λ (m : Lent). answersOf r m cs) (o .memory)
     ∙ answers-are r _ (state (o .strip) (openCall r s l store counts .store) (openCall r s l store counts .counts)) (record { strip = written-back (o .strip) h ns ws; singles = h; store = refl; counts = refl }) cs
-    ∙ joined r u s l store counts (o .strip) (o .answer) cs
+    ∙ answered r u s l store counts (o .strip) (o .answer) (map callOf cs)
+
+pub library-joined : (r : Rate) → RateUsable r → LibraryJoinedAt r
+unfolding LibraryJoinedAt
+library-joined r u singles doubles flags l ns ws store counts f z cs =
+    joined-of r u (setupOf singles doubles flags) l (map callOf cs) _ (library-answers r u singles doubles flags l ns ws store counts f z cs)
+
+-- DEMAND 3 for C
+pub library-demand3 : LibraryDemand3
+library-demand3 = record { joined = library-joined (rateOf 44100) usable-44100 }

@@ -119,7 +119,7 @@ resting k rests = record { answer = k; rests = rests }
 
 unfoldable pub restedBack : Rested → List ℕ → Resting
 restedBack (rested.the-variants.Rests b) rests = resting 0 (set rests 0 (flagged b))
-restedBack (rested.the-variants.Declined k) rests = resting k rests
+restedBack (rested.the-variants.Declined k s) rests = resting k rests
 
 unfoldable pub restFrom : Rate → Unpacked → List ℕ → List Float → List ℕ → Resting
 restFrom r unpack.the-variants.Not rests store counts = resting (declinedBy r 4 store counts) rests

@@ -1,19 +1,37 @@
--- Demand 3 through the library: a list of calls on lent memory, and what it answers. The theorem is `LibraryJoined`, proved in proofs/Joined.antt.
+-- Demand 3 for C: a list of calls on lent memory, what it is answered, and the claim, which is crate strip's. The claim is `LibraryDemand3`, which takes no argument;
+-- `library-demand3` in proofs/Joined.antt is a term of it.
 use Prim.Native.Nat.{ℕ}
 use mathlib.Core.Path.{_≡_}
 use mathlib.Core.Bool.{cond}
-use mathlib.Core.List.{List, [], _∷_}
+use mathlib.Core.List.{List, [], _∷_, map}
 use lib.Dec.{eqb}
 use lib.ListN.{getD}
 use lib.Ieee.{Float}
 use Rattle.rate.specs.declared.Rate.{Rate}
+use Rattle.rate.specs.Rate.{rateOf}
 use Rattle.tape.specs.Tape.{Lists}
-use Rattle.strip.specs.Machine.{fresh}
-use Rattle.strip.specs.Promise.{Call, run, move, ask, Answer, ran, moved, rests, declined, expected}
-use Rattle.packing.specs.Packing.{flagged, flagOf}
+use Rattle.strip.specs.declared.Controls.{Controls}
+use Rattle.strip.specs.Promise as promise
+use Rattle.strip.specs.Promise.{Call, Answer, ran, moved, rests, declined, Joined}
+use Rattle.packing.specs.Packing.{flagOf}
 use Rattle.packing.specs.Inverse.{Single}
 use Rattle.setup.specs.Setup.{numberAt, setupOf}
-use Rattle.goqhari.specs.Library.{Back, Opening, Running, Resting, libraryOpen, libraryRun, libraryLatch, libraryRest}
+use Rattle.goqhari.specs.Library.{Back, Opening, Running, Resting, drumming, libraryOpen, libraryRun, libraryLatch, libraryRest}
+
+-- ---- a list of calls
+
+pub data LibraryCall : Type 0 where
+  -- samples, drums, and the two outputs as they are lent
+  run : List Float → ℕ → List Float → List ℕ → LibraryCall
+  latch : Controls → LibraryCall
+  -- the word that the answer is written over
+  rest : ℕ → LibraryCall
+
+-- the same call of document 01
+abbrev pub callOf : LibraryCall → Call
+callOf (run xs drums frames gains) = promise.run xs (drumming drums) frames gains
+callOf (latch c) = promise.move c
+callOf (rest was) = promise.ask
 
 -- the memory of a strip
 pub record Lent : Type 0 where
@@ -35,31 +53,37 @@ latchSays b = cond (eqb (b .answer) 0) moved (declined (b .answer))
 unfoldable pub restSays : Resting → Answer
 restSays o = cond (eqb (o .answer) 0) (rests (flagOf (getD (o .rests) 0 0))) (declined (o .answer))
 
-unfoldable pub answerOf : Rate → Lent → Call → Answer
-answerOf r m (run xs d frames gains) = runSays (libraryRun r (m .numbers) (m .words) xs (flagged d) (m .store) (m .counts) frames gains)
-answerOf r m (move c) = latchSays (libraryLatch r (m .numbers) (m .words) c (m .store) (m .counts))
-answerOf r m ask = restSays (libraryRest r (m .numbers) (m .words) (0 ∷ []) (m .store) (m .counts))
+unfoldable pub answerOf : Rate → Lent → LibraryCall → Answer
+answerOf r m (run xs drums frames gains) = runSays (libraryRun r (m .numbers) (m .words) xs drums (m .store) (m .counts) frames gains)
+answerOf r m (latch c) = latchSays (libraryLatch r (m .numbers) (m .words) c (m .store) (m .counts))
+answerOf r m (rest was) = restSays (libraryRest r (m .numbers) (m .words) (was ∷ []) (m .store) (m .counts))
 
 abbrev pub runLeaves : Running → Lent
 runLeaves o = lent (o .back .numbers) (o .back .words) (o .store) (o .counts)
 
--- "each is lent the strip and stores just as the call before left them"
-unfoldable pub leftBy : Rate → Lent → Call → Lent
-leftBy r m (run xs d frames gains) = runLeaves (libraryRun r (m .numbers) (m .words) xs (flagged d) (m .store) (m .counts) frames gains)
-leftBy r m (move c) = let b = libraryLatch r (m .numbers) (m .words) c (m .store) (m .counts) in lent (b .numbers) (b .words) (m .store) (m .counts)
-leftBy r m ask = m
+-- "In a list of calls each is lent the strip and stores just as the call before left them"
+unfoldable pub leftBy : Rate → Lent → LibraryCall → Lent
+leftBy r m (run xs drums frames gains) = runLeaves (libraryRun r (m .numbers) (m .words) xs drums (m .store) (m .counts) frames gains)
+leftBy r m (latch c) = let b = libraryLatch r (m .numbers) (m .words) c (m .store) (m .counts) in lent (b .numbers) (b .words) (m .store) (m .counts)
+leftBy r m (rest was) = m
 
-unfoldable pub answersOf : Rate → Lent → List Call → List Answer
+unfoldable pub answersOf : Rate → Lent → List LibraryCall → List Answer
 answersOf r m [] = []
 answersOf r m (c ∷ cs) = answerOf r m c ∷ answersOf r (leftBy r m c) cs
 
 abbrev pub openLeaves : Opening → Lent
 openLeaves o = lent (o .back .numbers) (o .back .words) (o .store) (o .counts)
 
--- For every setup, lists and memory with which goqhari_open answers 0, and for every list of calls: every answer is the machine's. `singles` holds f32s, as its type says.
-unfoldable pub LibraryJoined : Rate → Type 0
-LibraryJoined r =
+-- ---- the claim
+
+-- "A list of calls starts with the strip and stores just as open left them". `singles` holds f32s, as its type says.
+unfoldable pub LibraryJoinedAt : Rate → Type 0
+LibraryJoinedAt r =
     (singles doubles : List Float) (flags : ℕ) (l : Lists) (ns : List Float) (ws : List ℕ) (store : List Float) (counts : List ℕ)
     → ((k : ℕ) → Single (numberAt singles k))
     → libraryOpen r singles doubles flags l ns ws store counts .back .answer ≡ 0
-    → (cs : List Call) → answersOf r (openLeaves (libraryOpen r singles doubles flags l ns ws store counts)) cs ≡ expected r (fresh r (setupOf singles doubles flags) l) cs
+    → (cs : List LibraryCall) → Joined r (setupOf singles doubles flags) l (map callOf cs) (answersOf r (openLeaves (libraryOpen r singles doubles flags l ns ws store counts)) cs)
+
+-- DEMAND 3 for C, at the rate that is sold: for every setup, lists and memory with which goqhari_open answers 0, and for every list of calls
+pub record LibraryDemand3 : Type 0 where
+  pub joined : LibraryJoinedAt (rateOf 44100)

@@ -68,7 +68,7 @@ fn told(answer: Rested, rests: &mut [u64; 1]) -> u64
             rests[0] = packing::flagged(rest);
             0
         }
-        Rested::Declined(number) => number,
+        Rested::Declined(number, _) => number,
     }
 }
 

@@ -60,7 +60,7 @@ module _ (r : Rate) (st : State) (k : ℕ) (e : k ≡ first r st 0) where
   latch-done c z j f y = rw (fine r st k e z .next (latchRefusal c), ← f, eq-eqb j 0 y)
 
   -- ---- rest
-  pub rest-first : (k ≡ 0 → ⊥) → rested.the-variants.Declined k ≡ restCall r st
+  pub rest-first : (k ≡ 0 → ⊥) → rested.the-variants.Declined k (st .strip) ≡ restCall r st
   unfolding restCall
   rest-first n = rw (← e, ne-eqb k 0 n)
 

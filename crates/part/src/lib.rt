@@ -128,7 +128,7 @@ pub fn rest(strip: Strip, store: &[f64], counts: &[u64]) -> Rested
 {
     let number = refusals::first(strip, store, counts);
     if number != 0 {
-        return Rested::Declined(number);
+        return Rested::Declined(number, strip);
     }
     let rate = Rate::cd();
     let answer = resting(rate, strip, store, counts);

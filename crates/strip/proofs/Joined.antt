@@ -1,4 +1,4 @@
--- Demand 3, for every list of calls: what the strip answers is what the one-sample machine answers (specs/Promise.antt, `Joined`, `JoinedAre`). Assumes nothing.
+-- Every list of calls, at any usable rate: what the strip answers is what the one-sample machine answers, and joined it is what the machine delivers. Assumes nothing.
 use mathlib.Core.Path.{_≡_, refl, sym, ap, subst, subst⁻¹, _∙_}
 use mathlib.Core.Bool.{Bool, true, false, cond, and-eq-true-iff}
 use Prim.Native.Nat.{ℕ, _+_, _≤_}
@@ -20,7 +20,7 @@ use Rattle.strip.specs.declared.Opened as opened
 use Rattle.strip.specs.Refusals.{furthest, okUnit, okOutputs, okEnd, okSamples, okControls, runRefusal, latchRefusal, openRefusal}
 use Rattle.strip.specs.Machine.{Machine, Event, sample, fresh, stepped, latched, fed, fedAll, delivers, heardFrom}
 use Rattle.strip.specs.Calls.{State, state, openedState, OpenDone, openCall, runCall, latchCall, restCall}
-use Rattle.strip.specs.Promise.{Call, run, move, ask, declined, answerTo, after, through, refusal, eventsOf, feeds, accepted, says, expected, Joined, framesIn, countsIn, joinedFrames, joinedCounts, takes, joinedEvents, JoinedAre}
+use Rattle.strip.specs.Promise.{Call, run, move, ask, declined, answerTo, after, through, refusal, eventsOf, feeds, accepted, says, expected, framesIn, countsIn, joinedFrames, joinedCounts, takes, joinedEvents}
 use Rattle.strip.proofs.Opening.{passed, opens, open-stands}
 use Rattle.strip.proofs.Related.{Stands, none-first, run-stands, run-heard, latch-stands, same-rest}
 
@@ -82,7 +82,7 @@ module _ (r : Rate) (u : RateUsable r) (m : Machine) (st : State) (g : Stands r 
 
   by-ask : Same r m st ask
   unfolding answerTo after restCall says feeds refusal accepted eventsOf fedAll
-  by-ask = record { answer = rw (none-first r u m st g 0, same-rest r u m st g); stands = g }
+  by-ask = record { answer = rw (none-first r u m st g 0, same-rest r u m st g); stands = rw (none-first r u m st g 0) g }
 
   pub one-call : (c : Call) → Same r m st c
   one-call (run xs d frames gains) = by-run xs d frames gains (eqb (runRefusal (m .position) xs (length frames) (length gains)) 0) refl
@@ -91,7 +91,7 @@ module _ (r : Rate) (u : RateUsable r) (m : Machine) (st : State) (g : Stands r 
 
 -- ---- every list of calls
 
-pub joined-from : (r : Rate) → RateUsable r → (cs : List Call) (m : Machine) (st : State) → Stands r m st → through r st cs ≡ expected r m cs
+joined-from : (r : Rate) → RateUsable r → (cs : List Call) (m : Machine) (st : State) → Stands r m st → through r st cs ≡ expected r m cs
 unfolding through expected
 joined-from r u [] m st g = refl
 joined-from r u (c ∷ cs) m st g =
@@ -131,10 +131,9 @@ module _ (r : Rate) (u : RateUsable r) (s : Setup) (l : Lists) (store : List Flo
   pub opened-stands : Stands r (fresh r s l) (state t (openCall r s l store counts .store) (openCall r s l store counts .counts))
   opened-stands = by-refusal (eqb (openRefusal r s l store counts) 0) refl
 
--- THE THEOREM: for every setup, lists and stores from which open gives a strip, and every list of calls from there on, the answers are the machine's
-pub joined : (r : Rate) → RateUsable r → Joined r
-unfolding Joined
-joined r u s l store counts t e cs =
+pub answered : (r : Rate) → RateUsable r → (s : Setup) (l : Lists) (store : List Float) (counts : List ℕ) (t : Strip) → openCall r s l store counts .answer ≡ opened.the-variants.Strip t
+    → (cs : List Call) → through r (state t (openCall r s l store counts .store) (openCall r s l store counts .counts)) cs ≡ expected r (fresh r s l) cs
+answered r u s l store counts t e cs =
     joined-from r u cs (fresh r s l) (state t (openCall r s l store counts .store) (openCall r s l store counts .counts)) (opened-stands r u s l store counts t e)
 
 -- ---- joined frames and counts
@@ -185,7 +184,7 @@ call-delivers r m (run xs d frames gains) = run-delivers r m xs d frames gains (
 call-delivers r m (move c) = move-delivers r m c (eqb (latchRefusal c) 0) refl
 call-delivers r m ask = record { position = refl; frames = refl; counts = refl }
 
-expected-frames : (r : Rate) (cs : List Call) (m : Machine) (n : ℕ) → m .position ≡ n → joinedFrames (expected r m cs) ≡ framesOut (heardFrom r m (joinedEvents n cs))
+pub expected-frames : (r : Rate) (cs : List Call) (m : Machine) (n : ℕ) → m .position ≡ n → joinedFrames (expected r m cs) ≡ framesOut (heardFrom r m (joinedEvents n cs))
 unfolding joinedFrames expected joinedEvents
 expected-frames r [] m n e = unfold heardFrom framesOut in refl
 expected-frames r (c ∷ cs) m n e =
@@ -193,24 +192,10 @@ expected-frames r (c ∷ cs) m n e =
     rw (← e, v .frames, expected-frames r cs (fedAll r m (feeds (m .position) c)) (takes (m .position) c) (v .position))
     (sym (ap framesOut (heard-append r m (feeds (m .position) c) (joinedEvents (takes (m .position) c) cs)) ∙ frames-append (heardFrom r m (feeds (m .position) c)) (heardFrom r (fedAll r m (feeds (m .position) c)) (joinedEvents (takes (m .position) c) cs))))
 
-expected-counts : (r : Rate) (cs : List Call) (m : Machine) (n : ℕ) → m .position ≡ n → joinedCounts (expected r m cs) ≡ countsOut (heardFrom r m (joinedEvents n cs))
+pub expected-counts : (r : Rate) (cs : List Call) (m : Machine) (n : ℕ) → m .position ≡ n → joinedCounts (expected r m cs) ≡ countsOut (heardFrom r m (joinedEvents n cs))
 unfolding joinedCounts expected joinedEvents
 expected-counts r [] m n e = unfold heardFrom in refl
 expected-counts r (c ∷ cs) m n e =
     let v = call-delivers r m c in
     rw (← e, v .counts, expected-counts r cs (fedAll r m (feeds (m .position) c)) (takes (m .position) c) (v .position))
     (sym (ap countsOut (heard-append r m (feeds (m .position) c) (joinedEvents (takes (m .position) c) cs)) ∙ counts-append (heardFrom r m (feeds (m .position) c)) (heardFrom r (fedAll r m (feeds (m .position) c)) (joinedEvents (takes (m .position) c) cs))))
-
-fresh-position : (r : Rate) (s : Setup) (l : Lists) → fresh r s l .position ≡ 0
-unfolding fresh
-fresh-position r s l = refl
-
-pub joined-are : (r : Rate) → RateUsable r → (s : Setup) (l : Lists) (store : List Float) (counts : List ℕ) (t : Strip) → openCall r s l store counts .answer ≡ opened.the-variants.Strip t
-    → (cs : List Call) → JoinedAre r s l cs (through r (state t (openCall r s l store counts .store) (openCall r s l store counts .counts)) cs)
-unfolding Joined
-joined-are r u s l store counts t e cs =
-    let j = joined r u s l store counts t e cs in
-    record {
-      frames = rw j (expected-frames r cs (fresh r s l) 0 (fresh-position r s l));
-      counts = rw j (expected-counts r cs (fresh r s l) 0 (fresh-position r s l));
-    }

@@ -5,5 +5,6 @@ pub mod Related
 pub mod Opening
 pub mod Joined
 pub mod Bound
+pub mod Demand3
 pub mod Cases
 pub mod Edges

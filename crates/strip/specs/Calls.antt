@@ -195,4 +195,4 @@ restingOn r st = tapeAtRestOn (st .strip .tape .tone) (st .strip .tape .equalize
 unfoldable pub restCall : Rate → State → Rested
 restCall r st =
     let k = first r st 0 in
-    cond (eqb k 0) (rested.the-variants.Rests (restingOn r st)) (rested.the-variants.Declined k)
+    cond (eqb k 0) (rested.the-variants.Rests (restingOn r st)) (rested.the-variants.Declined k (st .strip))

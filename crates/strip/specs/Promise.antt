@@ -1,4 +1,5 @@
--- Demand 3: a list of calls, what it is answered, and what the machine says to it. The theorem is `Joined`, proved in proofs/Joined.antt.
+-- Demand 3, "a single claim about the whole list, not one for each call": a list of calls, what it is answered, what the machine says to it, and the claim.
+-- The claim is `Demand3`, which takes no argument; `demand3` in proofs/Demand3.antt is a term of it.
 use Prim.Native.Nat.{ℕ, _+_, _-_, _*_, _<_, _≤_, suc}
 use mathlib.Core.Path.{_≡_}
 use mathlib.Core.Bool.{Bool, cond}
@@ -9,6 +10,7 @@ use lib.Ieee.{Float}
 use Rattle.casts.specs.Step.{stepOf}
 use Rattle.stream.specs.declared.Frame.{Frame}
 use Rattle.rate.specs.declared.Rate.{Rate}
+use Rattle.rate.specs.Rate.{rateOf}
 use Rattle.tape.specs.Tape.{Lists, tapeStep}
 use Rattle.master.specs.Ceiling.{needOf, silence}
 use Rattle.master.specs.Kept.{framesOut, countsOut}
@@ -44,6 +46,11 @@ abbrev pub stripOf : Outcome → Strip
 stripOf (Now s) = s
 stripOf (Declined k s) = s
 
+-- "Rest gives the rest answer and changes nothing": the strip s that it was lent, or the one that it hands back
+abbrev pub restStrip : Strip → Rested → Strip
+restStrip s (rested.the-variants.Rests b) = s
+restStrip s (rested.the-variants.Declined k t) = t
+
 abbrev pub runAnswer : Outcome → List Float → List ℕ → Answer
 runAnswer (Now s) frames gains = ran frames gains
 runAnswer (Declined k s) frames gains = declined k
@@ -54,7 +61,7 @@ moveAnswer (Declined k s) = declined k
 
 abbrev pub restAnswer : Rested → Answer
 restAnswer (rested.the-variants.Rests b) = rests b
-restAnswer (rested.the-variants.Declined k) = declined k
+restAnswer (rested.the-variants.Declined k s) = declined k
 
 unfoldable pub answerTo : Rate → State → Call → Answer
 answerTo r st (run xs d frames gains) = let o = runCall r st xs d frames gains in runAnswer (o .answer) (o .frames) (o .gains)
@@ -64,7 +71,7 @@ answerTo r st ask = restAnswer (restCall r st)
 unfoldable pub after : Rate → State → Call → State
 after r st (run xs d frames gains) = let o = runCall r st xs d frames gains in state (stripOf (o .answer)) (o .store) (o .counts)
 after r st (move c) = state (stripOf (latchCall r st c)) (st .store) (st .counts)
-after r st ask = st
+after r st ask = state (restStrip (st .strip) (restCall r st)) (st .store) (st .counts)
 
 unfoldable pub through : Rate → State → List Call → List Answer
 through r st [] = []
@@ -99,15 +106,6 @@ unfoldable pub expected : Rate → Machine → List Call → List Answer
 expected r m [] = []
 expected r m (c ∷ cs) = says r m c ∷ expected r (fedAll r m (feeds (m .position) c)) cs
 
--- ---- the promise
-
--- "A list of calls starts with the strip and stores just as open left them, and with the machine fresh under the same setup, points and kicks."
--- For every setup, lists and stores from which open gives a strip, and for every list of calls: every answer is the machine's. Floats are equal as values, all NaNs being one.
-unfoldable pub Joined : Rate → Type 0
-Joined r =
-    (s : Setup) (l : Lists) (store : List Float) (counts : List ℕ) (t : Strip) → openCall r s l store counts .answer ≡ opened.the-variants.Strip t
-    → (cs : List Call) → through r (state t (openCall r s l store counts .store) (openCall r s l store counts .counts)) cs ≡ expected r (fresh r s l) cs
-
 -- ---- joined frames and counts
 
 abbrev pub framesIn : Answer → List Float
@@ -130,7 +128,7 @@ unfoldable pub joinedCounts : List Answer → List ℕ
 joinedCounts [] = []
 joinedCounts (a ∷ l) = countsIn a ++ joinedCounts l
 
--- the samples and latches that the machine is fed, which the positions alone pick out
+-- the joined samples, with each accepted latch at its position: what the calls feed the machine, which the positions alone pick out
 unfoldable pub takes : ℕ → Call → ℕ
 takes n (run xs d frames gains) = cond (eqb (runRefusal n xs (length frames) (length gains)) 0) (n + length xs) n
 takes n (move c) = n
@@ -140,14 +138,9 @@ unfoldable pub joinedEvents : ℕ → List Call → List Event
 joinedEvents n [] = []
 joinedEvents n (c ∷ cs) = feeds n c ++ joinedEvents (takes n c) cs
 
--- the joined frames and counts are what the fresh machine delivers for the joined samples and latches, however they are divided into calls
-pub record JoinedAre (r : Rate) (s : Setup) (l : Lists) (cs : List Call) (answers : List Answer) : Type 0 where
-  pub frames : joinedFrames answers ≡ framesOut (heardFrom r (fresh r s l) (joinedEvents 0 cs))
-  pub counts : joinedCounts answers ≡ countsOut (heardFrom r (fresh r s l) (joinedEvents 0 cs))
+-- ---- the frames that the ceiling is given, whose needs bound the gain
 
--- ---- the gain bound
-
--- the frames (y + l, y + r) that the machine's ceiling is given
+-- "The frame is (y + l, y + r)."
 unfoldable pub mixes : Rate → Machine → Event → List Frame
 mixes r m (sample x d) =
     mixedStep (r .plate) (m .setup .send) (m .position) (m .plate) (tapeStep (r .tape) (m .setup .tape) (m .daylight) (m .rain) (m .lists) d (m .position) (m .tape) x .out) .out ∷ []
@@ -157,8 +150,30 @@ unfoldable pub mixedFrom : Rate → Machine → List Event → List Frame
 mixedFrom r m [] = []
 mixedFrom r m (e ∷ es) = mixes r m e ++ mixedFrom r (fed r m e) es
 
--- "a delivered frame's need is that of the frame 220 back which it comes from": each joined count after the first 220 is at most 221 times the whole part of 2^40 · that need
-unfoldable pub Bounded : Rate → Type 0
-Bounded r =
-    (s : Setup) (l : Lists) (es : List Event) (i : ℕ) → i < length (heardFrom r (fresh r s l) es) → r .ceiling .ahead ≤ i
-    → getD (countsOut (heardFrom r (fresh r s l) es)) i 0 ≤ suc (r .ceiling .ahead) * stepOf (needOf (r .ceiling) (getD (mixedFrom r (fresh r s l) es) (i - r .ceiling .ahead) silence))
+-- "a delivered frame's need is that of the frame 220 back which it comes from": of the frame delivered i-th, where i is 220 or more
+unfoldable pub deliveredNeed : Rate → List Frame → ℕ → Float
+deliveredNeed r frames i = needOf (r .ceiling) (getD frames (i - r .ceiling .ahead) silence)
+
+-- ---- the claim
+
+-- What is claimed of a list of calls and of the answers to it, the strip having been opened under the setup s and the lists l. Floats are equal as values, all NaNs being one.
+pub record Joined (r : Rate) (s : Setup) (l : Lists) (cs : List Call) (answers : List Answer) : Type 0 where
+  -- every answer is the machine's: frames, gain counts, rest answers, and refusal numbers "with n as the position"
+  pub machine : answers ≡ expected r (fresh r s l) cs
+  -- "Joined frames and joined gain counts .. are compared bit for bit with the machine's": they are what the fresh machine delivers for the joined samples, with each accepted latch at its
+  -- position, however they are divided into calls
+  pub frames : joinedFrames answers ≡ framesOut (heardFrom r (fresh r s l) (joinedEvents 0 cs))
+  pub counts : joinedCounts answers ≡ countsOut (heardFrom r (fresh r s l) (joinedEvents 0 cs))
+  -- the gain bound: after the first 220, each joined count is at most 221 times the whole part of 2^40 · need of the frame delivered
+  pub bound : (i : ℕ) → i < length (joinedCounts answers) → r .ceiling .ahead ≤ i
+      → getD (joinedCounts answers) i 0 ≤ suc (r .ceiling .ahead) * stepOf (deliveredNeed r (mixedFrom r (fresh r s l) (joinedEvents 0 cs)) i)
+
+-- "A list of calls starts with the strip and stores just as open left them, and with the machine fresh under the same setup, points and kicks."
+unfoldable pub JoinedAt : Rate → Type 0
+JoinedAt r =
+    (s : Setup) (l : Lists) (store : List Float) (counts : List ℕ) (t : Strip) → openCall r s l store counts .answer ≡ opened.the-variants.Strip t
+    → (cs : List Call) → Joined r s l cs (through r (state t (openCall r s l store counts .store) (openCall r s l store counts .counts)) cs)
+
+-- DEMAND 3, at the rate that is sold: for every setup, lists and stores from which open gives a strip, and for every list of calls
+pub record Demand3 : Type 0 where
+  pub joined : JoinedAt (rateOf 44100)

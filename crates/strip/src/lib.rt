@@ -47,8 +47,8 @@ pub enum Outcome {
     Declined(u64, Strip),
 }
 
-// What rest answers.
+// What rest answers: whether the strip is at rest, or the refusal's number with the strip as it came.
 pub enum Rested {
     Rests(bool),
-    Declined(u64),
+    Declined(u64, Strip),
 }
