@@ -17,12 +17,16 @@
  * order of their numbers, and the first that fits is the answer. Whatever the numbers in the lists are, a call answers.
  *
  * The caller's duty: a pointer is not null, not even that of an empty list, and is aligned for its type; its length is not more than
- * what is there; and no list that a call may write overlaps another that is lent to the same call. Nothing else is assumed.
+ * what is there; and no list that a call may write overlaps another that is lent to the same call. Floating-point arithmetic is in the
+ * mode that a C program starts in: it rounds to nearest, and subnormal numbers are neither flushed to zero nor read as zero. Many audio
+ * hosts set both (FTZ and DAZ of MXCSR) in the threads that they call from: clear them around a call, since with them some ducked
+ * signals, rest answers and refusals differ. Nothing else is assumed.
+ *
+ * A length is a uint64_t on every machine, also where a size_t has 32 bits.
  */
 #ifndef GOQHARI_H
 #define GOQHARI_H
 
-#include <stddef.h>
 #include <stdint.h>
 
 #ifdef __cplusplus
@@ -58,13 +62,18 @@ extern "C" {
 enum goqhari_answer {
     /* Done. */
     GOQHARI_OK = 0,
-    /* A lent store is shorter than 49,152 f64 or 4,096 u64; or, in goqhari_open, there is no room for the packed strip. */
+    /* A lent store is shorter than 49,152 f64 or 4,096 u64, or there are fewer than 87 numbers or 19 words for the packed strip (all calls). */
     GOQHARI_STORE_SHORT = 1,
     /* A setup number is NaN or outside its range, or a flag is set that means nothing (open). */
     GOQHARI_BAD_SETUP = 2,
     /* A list is too long, falls, has positions and values unequal in number, a value outside 0 to 1 or NaN, or a position above 2^32 (open). */
     GOQHARI_BAD_LIST = 3,
-    /* The strip is malformed: its lists are not what a call left, or numbers or words are fewer than a strip's (run, latch, rest). */
+    /*
+     * The strip is malformed: position or a ramp's start or length above 2^32, a cursor beyond its list, more than 883 queued needs, a need
+     * or the released gain outside 0 to 1 or NaN, a step above 2^40, a gain count that is not the total of its 221 steps, or kept setup and
+     * lists that 2 or 3 would decline; or it cannot be read: a tag or flag among the words is above 1, or a number is no f32 where one
+     * belongs (run, latch, rest). Nothing else is looked at: a strip that was altered may pass, and plays what its numbers say.
+     */
     GOQHARI_BAD_STRIP = 4,
     /* The frame output isn't exactly 2 f32 a sample, or the count output 1 u64 a sample (run). */
     GOQHARI_BAD_OUTPUT = 5,
@@ -94,37 +103,37 @@ enum goqhari_flag {
  * The lists are copied into the stores. What the four lists of the strip held before does not matter.
  */
 uint64_t goqhari_open(const float singles[8], const double doubles[4], uint64_t flags,
-                      const uint64_t *positions, size_t positions_len,
-                      const double *values, size_t values_len,
-                      const uint64_t *kicks, size_t kicks_len,
-                      double *numbers, size_t numbers_len, uint64_t *words, size_t words_len,
-                      double *store, size_t store_len, uint64_t *counts, size_t counts_len);
+                      const uint64_t *positions, uint64_t positions_len,
+                      const double *values, uint64_t values_len,
+                      const uint64_t *kicks, uint64_t kicks_len,
+                      double *numbers, uint64_t numbers_len, uint64_t *words, uint64_t words_len,
+                      double *store, uint64_t store_len, uint64_t *counts, uint64_t counts_len);
 
 /*
  * Takes samples_len samples through the strip. frames gets two floats a sample (left, right), gains one count a sample, and their
  * lengths are exactly that. drums: 0, or anything else where the kicks reached in this run are heard and duck the lane.
  * The outputs do not depend on how samples are divided into runs.
  */
-uint64_t goqhari_run(double *numbers, size_t numbers_len, uint64_t *words, size_t words_len,
-                     const double *samples, size_t samples_len, uint64_t drums,
-                     float *frames, size_t frames_len, uint64_t *gains, size_t gains_len,
-                     double *store, size_t store_len, uint64_t *counts, size_t counts_len);
+uint64_t goqhari_run(double *numbers, uint64_t numbers_len, uint64_t *words, uint64_t words_len,
+                     const double *samples, uint64_t samples_len, uint64_t drums,
+                     float *frames, uint64_t frames_len, uint64_t *gains, uint64_t gains_len,
+                     double *store, uint64_t store_len, uint64_t *counts, uint64_t counts_len);
 
 /*
  * Moves daylight and rain, from the position reached, to the given values over the given numbers of samples. A value that is already
  * the target changes nothing.
  */
-uint64_t goqhari_latch(double *numbers, size_t numbers_len, uint64_t *words, size_t words_len,
+uint64_t goqhari_latch(double *numbers, uint64_t numbers_len, uint64_t *words, uint64_t words_len,
                        float daylight, uint64_t grading, float rain, uint64_t darkening,
-                       const double *store, size_t store_len, const uint64_t *counts, size_t counts_len);
+                       const double *store, uint64_t store_len, const uint64_t *counts, uint64_t counts_len);
 
 /*
  * Sets rests[0] to 1 where every filter and line of the lane and the plate holds only zeros, so that silence in gives silence out,
  * and to 0 where not. Changes nothing else.
  */
-uint64_t goqhari_rest(const double *numbers, size_t numbers_len, const uint64_t *words, size_t words_len,
+uint64_t goqhari_rest(const double *numbers, uint64_t numbers_len, const uint64_t *words, uint64_t words_len,
                       uint64_t rests[1],
-                      const double *store, size_t store_len, const uint64_t *counts, size_t counts_len);
+                      const double *store, uint64_t store_len, const uint64_t *counts, uint64_t counts_len);
 
 /* ---- a setup by names, and a strip of exact lists */
 
@@ -196,8 +205,8 @@ static inline void goqhari_setup_doubles(const struct goqhari_setup *setup, doub
 
 /* goqhari_open of a setup by names; as many positions as values. Here an empty list's pointer may be null. */
 static inline uint64_t goqhari_strip_open(struct goqhari_strip *strip, const struct goqhari_setup *setup,
-                                          const uint64_t *positions, const double *values, size_t points,
-                                          const uint64_t *kicks, size_t kicks_len)
+                                          const uint64_t *positions, const double *values, uint64_t points,
+                                          const uint64_t *kicks, uint64_t kicks_len)
 {
     const uint64_t no_position = 0;
     const double no_value = 0.0;
@@ -213,7 +222,7 @@ static inline uint64_t goqhari_strip_open(struct goqhari_strip *strip, const str
 }
 
 /* goqhari_run of so many samples; frames has room for two floats a sample, gains for one count. */
-static inline uint64_t goqhari_strip_run(struct goqhari_strip *strip, const double *samples, size_t samples_len, int drums,
+static inline uint64_t goqhari_strip_run(struct goqhari_strip *strip, const double *samples, uint64_t samples_len, int drums,
                                          float *frames, uint64_t *gains)
 {
     return goqhari_run(strip->numbers, GOQHARI_NUMBERS, strip->words, GOQHARI_WORDS, samples, samples_len, drums ? 1 : 0,

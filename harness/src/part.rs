@@ -1,5 +1,5 @@
 //! The part, by the functions of crates/exports. SIGNATURES.md says what each takes. A slice passes as its address and
-//! its length, an array as its address.
+//! its length (a u64), an array as its address.
 
 use crate::setup::{Numbers, Setup};
 
@@ -24,17 +24,17 @@ unsafe extern "C" {
     pub safe fn goqhari_test_onepole(onepole: &mut [f64; 2], x: f64) -> f64;
     pub safe fn goqhari_test_tilt(onepole: &mut [f64; 2], rain: f64, x: f64) -> f64;
     pub safe fn goqhari_test_pole(damping: bool) -> f64;
-    fn goqhari_test_push(ring: *mut f64, len: usize, written: u64, x: f64);
-    fn goqhari_test_at(ring: *const f64, len: usize, written: u64, delay: u64) -> f64;
-    fn goqhari_test_tap(ring: *const f64, len: usize, written: u64, max_delay: f64, delay: f64) -> f64;
+    fn goqhari_test_push(ring: *mut f64, len: u64, written: u64, x: f64);
+    fn goqhari_test_at(ring: *const f64, len: u64, written: u64, delay: u64) -> f64;
+    fn goqhari_test_tap(ring: *const f64, len: u64, written: u64, max_delay: f64, delay: f64) -> f64;
     pub safe fn goqhari_test_ramp_at(ends: &[f64; 2], span: &[u64; 2], db: bool, n: u64) -> f64;
     pub safe fn goqhari_test_daylight(ends: &[f64; 2], span: &[u64; 2], n: u64) -> f64;
     pub safe fn goqhari_test_ramp_toward(ends: &mut [f64; 2], span: &mut [u64; 2], db: bool, n: u64, to: f64, len: u64);
     fn goqhari_test_sweep(
         points: *const u64,
-        points_len: usize,
+        points_len: u64,
         values: *const f64,
-        values_len: usize,
+        values_len: u64,
         own: f32,
         n: u64,
     ) -> f32;
@@ -42,89 +42,90 @@ unsafe extern "C" {
     pub safe fn goqhari_test_grade_corner(night: f32, day: f32, t: f64) -> f32;
     pub safe fn goqhari_test_grade_drive(night: f32, day: f32, t: f64) -> f64;
     pub safe fn goqhari_test_sidechain(since: u64) -> f64;
-    fn goqhari_test_duck_new(kicks: *const u64, kicks_len: usize, counts: *mut u64, counts_len: usize) -> usize;
-    fn goqhari_test_duck(counts: *mut u64, counts_len: usize, cursors: &mut [usize; 3], n: u64, drums: bool) -> f64;
+    fn goqhari_test_duck_new(kicks: *const u64, kicks_len: u64, counts: *mut u64, counts_len: u64) -> u64;
+    fn goqhari_test_duck(counts: *mut u64, counts_len: u64, cursors: &mut [u64; 3], n: u64, drums: bool) -> f64;
     fn goqhari_test_tape(
         f32s: &[f32; 8],
         f64s: &[f64; 4],
         flags: u64,
         points: *const u64,
-        points_len: usize,
+        points_len: u64,
         values: *const f64,
-        values_len: usize,
+        values_len: u64,
         kicks: *const u64,
-        kicks_len: usize,
+        kicks_len: u64,
         ring: *mut f64,
-        ring_len: usize,
+        ring_len: u64,
         counts: *mut u64,
-        counts_len: usize,
+        counts_len: u64,
         samples: *mut f64,
-        samples_len: usize,
+        samples_len: u64,
         calls: *const u64,
-        calls_len: usize,
+        calls_len: u64,
     ) -> bool;
     fn goqhari_test_plate(
         part: *mut f64,
-        part_len: usize,
+        part_len: u64,
         left: *mut f64,
-        left_len: usize,
+        left_len: u64,
         right: *mut f64,
-        right_len: usize,
+        right_len: u64,
         calls: *const u64,
-        calls_len: usize,
+        calls_len: u64,
     ) -> bool;
     fn goqhari_test_ceiling(
         samples: *mut f64,
-        samples_len: usize,
+        samples_len: u64,
         counts: *mut u64,
-        counts_len: usize,
+        counts_len: u64,
         left: *const f64,
-        left_len: usize,
+        left_len: u64,
         right: *const f64,
-        right_len: usize,
+        right_len: u64,
         frames: *mut f32,
-        frames_len: usize,
+        frames_len: u64,
         gains: *mut u64,
-        gains_len: usize,
+        gains_len: u64,
         calls: *const u64,
-        calls_len: usize,
+        calls_len: u64,
     );
 }
 
 pub fn push(ring: &mut [f64], written: u64, x: f64) {
-    unsafe { goqhari_test_push(ring.as_mut_ptr(), ring.len(), written, x) }
+    unsafe { goqhari_test_push(ring.as_mut_ptr(), ring.len() as u64, written, x) }
 }
 
 pub fn at(ring: &[f64], written: u64, delay: u64) -> f64 {
-    unsafe { goqhari_test_at(ring.as_ptr(), ring.len(), written, delay) }
+    unsafe { goqhari_test_at(ring.as_ptr(), ring.len() as u64, written, delay) }
 }
 
 pub fn tap(ring: &[f64], written: u64, max_delay: f64, delay: f64) -> f64 {
-    unsafe { goqhari_test_tap(ring.as_ptr(), ring.len(), written, max_delay, delay) }
+    unsafe { goqhari_test_tap(ring.as_ptr(), ring.len() as u64, written, max_delay, delay) }
 }
 
 /// The swept corner at n of a lane whose own is `own`.
 pub fn sweep(points: &[u64], values: &[f64], own: f32, n: u64) -> f32 {
-    unsafe { goqhari_test_sweep(points.as_ptr(), points.len(), values.as_ptr(), values.len(), own, n) }
+    unsafe { goqhari_test_sweep(points.as_ptr(), points.len() as u64, values.as_ptr(), values.len() as u64, own, n) }
 }
 
 /// A duck's part of the count store, which holds anything before.
 pub struct Duck {
     counts: Vec<u64>,
-    cursors: [usize; 3],
+    cursors: [u64; 3],
 }
 
 impl Duck {
     pub fn new(kicks: &[u64]) -> Self {
         let mut counts = vec![u64::MAX; 2048];
-        let count =
-            unsafe { goqhari_test_duck_new(kicks.as_ptr(), kicks.len(), counts.as_mut_ptr(), counts.len()) };
+        let count = unsafe {
+            goqhari_test_duck_new(kicks.as_ptr(), kicks.len() as u64, counts.as_mut_ptr(), counts.len() as u64)
+        };
         Self { counts, cursors: [count, 0, 0] }
     }
 
     /// The gain of sample n.
     pub fn gain(&mut self, n: u64, drums: bool) -> f64 {
-        unsafe { goqhari_test_duck(self.counts.as_mut_ptr(), self.counts.len(), &mut self.cursors, n, drums) }
+        unsafe { goqhari_test_duck(self.counts.as_mut_ptr(), self.counts.len() as u64, &mut self.cursors, n, drums) }
     }
 }
 
@@ -157,19 +158,19 @@ pub fn tape(setup: &Setup, samples: &mut [f64], calls: &[Call]) -> bool {
             &f64s,
             flags,
             setup.points.as_ptr(),
-            setup.points.len(),
+            setup.points.len() as u64,
             setup.values.as_ptr(),
-            setup.values.len(),
+            setup.values.len() as u64,
             setup.kicks.as_ptr(),
-            setup.kicks.len(),
+            setup.kicks.len() as u64,
             ring.as_mut_ptr(),
-            ring.len(),
+            ring.len() as u64,
             counts.as_mut_ptr(),
-            counts.len(),
+            counts.len() as u64,
             samples.as_mut_ptr(),
-            samples.len(),
+            samples.len() as u64,
             calls.as_ptr(),
-            calls.len(),
+            calls.len() as u64,
         )
     }
 }
@@ -188,13 +189,13 @@ pub fn plate_in(part: &mut [f64], left: &mut [f64], right: &mut [f64], calls: &[
     unsafe {
         goqhari_test_plate(
             part.as_mut_ptr(),
-            part.len(),
+            part.len() as u64,
             left.as_mut_ptr(),
-            left.len(),
+            left.len() as u64,
             right.as_mut_ptr(),
-            right.len(),
+            right.len() as u64,
             calls.as_ptr(),
-            calls.len(),
+            calls.len() as u64,
         )
     }
 }
@@ -220,19 +221,19 @@ pub fn ceiling_in(
     unsafe {
         goqhari_test_ceiling(
             samples.as_mut_ptr(),
-            samples.len(),
+            samples.len() as u64,
             counts.as_mut_ptr(),
-            counts.len(),
+            counts.len() as u64,
             left.as_ptr(),
-            left.len(),
+            left.len() as u64,
             right.as_ptr(),
-            right.len(),
+            right.len() as u64,
             frames.as_mut_ptr(),
-            frames.len(),
+            frames.len() as u64,
             gains.as_mut_ptr(),
-            gains.len(),
+            gains.len() as u64,
             calls.as_ptr(),
-            calls.len(),
+            calls.len() as u64,
         );
     }
 }

@@ -4,6 +4,10 @@
 //! dependency: the caller lends two stores, and a [`Strip`] borrows them while it lives. That nobody else writes to them
 //! between calls, which the part's theorem asks, is what the borrow says.
 //!
+//! The floating-point mode is the caller's duty: arithmetic rounds to nearest, and subnormal numbers are neither flushed to
+//! zero nor read as zero, as Rust itself assumes. Many audio hosts set both (FTZ and DAZ of MXCSR) in the threads that they
+//! call from; with them some ducked signals, rest answers and refusals differ.
+//!
 //! ```no_run
 //! use goqhari::{STORE_COUNTS, STORE_NUMBERS, Setup, Strip};
 //!

@@ -6,7 +6,7 @@ ghost use Prim.Native.Nat.{_<_};
 ghost use Rattle.delay.specs.Delay.{Reach};
 ghost use Rattle.allpass.specs.Allpass.{gave, storedOf, latticeFromOn, latticeOn, stretchedAt, delayOn, Lent};
 
-// What a line inside a loop takes. Adding 0 turns -0 into +0, as the Rust's kick of 0 does.
+// What a line inside a loop takes: the Rust's flush(v) + kick, kick being 0. The sum changes no value, since flush gives no -0.
 pub fn stored(v: f64) -> f64
     ensures { λ r. ⌜ r ≡ storedOf v ⌝ }
 {

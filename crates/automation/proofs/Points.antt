@@ -40,10 +40,6 @@ reached-next (p ∷ ps) n h = elim (decLe p n) [
   | no i ↦ rw (lt-leb p n (omega arith)) (omega arith)
 ]
 
--- in a list that never falls, so does every later one
-pub reached-after : (ps : List ℕ) (n : ℕ) → ((i j : ℕ) → i ≤ j → j < length ps → getD ps i 0 ≤ getD ps j 0) → (k : ℕ) → reached ps n ≤ k → k < length ps → n < getD ps k 0
-reached-after ps n rises k h l = omega (arith, reached-next ps n (omega arith), rises (reached ps n) k h l)
-
 -- up to the next point the same points are reached
 pub reached-same : (ps : List ℕ) (n j : ℕ) → (reached ps n < length ps → n + j < getD ps (reached ps n) 0) → reached ps (n + j) ≡ reached ps n
 unfolding reached

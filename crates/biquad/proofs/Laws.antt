@@ -1,11 +1,9 @@
--- The constants of the code, and what a step and a retuning do to each other. Assumes nothing.
+-- The constants of the code, and that a step keeps a tuning. Assumes nothing.
 use mathlib.Core.Path.{_≡_, refl}
 use Prim.Native.Nat.{ℕ}
 use lib.Ieee.{Float, binary64, ofBits, add, sub, mul, div, neg, ofInt}
 use Rattle.casts.specs.Cast.{floored}
 use Rattle.elementary.specs.Elementary.{COS, down}
-use Rattle.biquad.specs.declared.Section.{Section}
-use Rattle.biquad.specs.declared.Coefficients.{Coefficients}
 use Rattle.biquad.specs.declared.Lowpass.{Lowpass}
 use Rattle.biquad.specs.Section.{sectionStep, retuned, lowpassStep}
 use Rattle.biquad.specs.Cookbook.{butterQ, lowpassRetuned}
@@ -20,15 +18,6 @@ unfolding butterQ COS down ofBits add sub mul div neg ofInt floored
 q-second = refl
 
 -- a step keeps the coefficients, so that tuning at each sample is tuning once
-pub retuned-stepped : (s : Section) (c : Coefficients) (x : Float) → retuned (sectionStep (retuned s c) x) c ≡ sectionStep (retuned s c) x
-unfolding retuned sectionStep
-retuned-stepped s c x = refl
-
 pub lowpass-stepped : (l : Lowpass) (hz : Float) (rate : ℕ) (x : Float) → lowpassRetuned (lowpassStep (lowpassRetuned l hz rate) x) hz rate ≡ lowpassStep (lowpassRetuned l hz rate) x
 unfolding lowpassRetuned lowpassStep retuned sectionStep
 lowpass-stepped l hz rate x = refl
-
--- the last tuning counts alone
-pub retuned-again : (s : Section) (c d : Coefficients) → retuned (retuned s c) d ≡ retuned s d
-unfolding retuned
-retuned-again s c d = refl

@@ -5,7 +5,7 @@ use Rattle.casts.specs.Arithmetic.{_⊕_, _⊖_, _⊗_, _⊘_, whole, nought, o
 use Rattle.elementary.specs.Elementary.{SIN, COS, SINH, SQRT7200, LOG2·2, midpoint, TAU, PI, LN2}
 use Rattle.biquad.specs.declared.Coefficients.{Coefficients}
 use Rattle.biquad.specs.declared.Lowpass.{Lowpass}
-use Rattle.biquad.specs.Section.{sectionAt, retuned}
+use Rattle.biquad.specs.Section.{retuned}
 
 -- b0, b1, b2, a0, a1, a2 over a0
 unfoldable pub normalized : Float → Float → Float → Float → Float → Float → Coefficients
@@ -49,11 +49,7 @@ bandpassAt rate = let w0 = angleOf SQRT7200 rate in bpf w0 (SIN w0) (COS w0) LOG
 unfoldable pub butterQ : ℕ → ℕ → Float
 butterQ k n = neg one ⊘ (two ⊗ COS ((two ⊗ whole k ⊕ whole n ⊖ one) ⊗ PI ⊘ (two ⊗ whole n)))
 
--- an order-4 low-pass at a corner: section 1, of Q 1.307, then section 2, of Q 0.541
-unfoldable pub butterLowpass : Float → ℕ → Lowpass
-butterLowpass hz rate = record { first = sectionAt (lowpassAt hz (butterQ 1 4) rate); second = sectionAt (lowpassAt hz (butterQ 2 4) rate) }
-
--- the same filter at another corner: "new coefficients keep the past"
+-- an order-4 low-pass moved to a corner, its section 1 of Q 1.307 and its section 2 of Q 0.541: "new coefficients keep the past"
 unfoldable pub lowpassRetuned : Lowpass → Float → ℕ → Lowpass
 lowpassRetuned l hz rate =
     record { first = retuned (l .first) (lowpassAt hz (butterQ 1 4) rate); second = retuned (l .second) (lowpassAt hz (butterQ 2 4) rate) }

@@ -2,7 +2,7 @@
 // Uses casts, elementary and stream.
 ghost use mathlib.Core.Path.{_≡_};
 ghost use Rattle.biquad.specs.Section.{sectionAt, sectionStep, retuned, sectionAtRest, lowpassStep, lowpassAtRest};
-ghost use Rattle.biquad.specs.Cookbook.{normalized, angleOf, lpf, butterLowpass, lowpassRetuned};
+ghost use Rattle.biquad.specs.Cookbook.{normalized, angleOf, lpf, lowpassRetuned};
 
 // The Butterworth Qs of order 4.
 const Q_FIRST: f64 = 1.306562964876377;
@@ -158,16 +158,4 @@ impl Lowpass {
         }
         false
     }
-}
-
-// An order-4 Butterworth low-pass at hz whose past is zero.
-pub fn butter_lowpass(hz: f32, rate: u32) -> Lowpass
-    ensures { λ r. ⌜ r ≡ butterLowpass hz rate ⌝ }
-{
-    let w0 = angle(hz, rate);
-    let sin = elementary::sin(w0);
-    let cos = elementary::cos(w0);
-    let first = Section::new(cookbook_lowpass(sin, cos, Q_FIRST));
-    let second = Section::new(cookbook_lowpass(sin, cos, Q_SECOND));
-    Lowpass { first, second }
 }

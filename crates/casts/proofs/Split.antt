@@ -83,6 +83,3 @@ reads-nan f b h = sym (is-nan (ofBits f b) (sym (nanBits-is f b) ∙ nanBits-abo
 
 pub reads-number : (f : Format) (b : ℕ) → b % top f ≤ ones f * hid f → T (not (nanBits f b))
 reads-number f b h = not-false (nanBits f b) (nanBits-above f b ∙ le-ltb (ones f * hid f) (b % top f) h)
-
-pub number-no-nan : (f : Format) (b : ℕ) → b % top f ≤ ones f * hid f → T (not (isNan (ofBits f b)))
-number-no-nan f b h = subst (λ (x : Bool). T (not x)) (nanBits-is f b) (reads-number f b h)

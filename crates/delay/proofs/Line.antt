@@ -11,7 +11,7 @@ use lib.Seq.{getD-set-same, getD-set-other}
 use lib.Ieee.{Float, nan, toUnsigned}
 use Rattle.casts.specs.Arithmetic.{nought}
 use Rattle.delay.specs.declared.DelayLine.{DelayLine}
-use Rattle.delay.specs.Delay.{back, storePush, storeTap, linePush, lineAt, lineTap, lineOf, history, pushOf, atOf, tapOf, lesserOf, largerOf, Usable}
+use Rattle.delay.specs.Delay.{back, storePush, storeTap, linePush, lineAt, lineTap, lineOf, history, pushOf, atOf, tapOf, notAbove, notBelow, Usable}
 use Rattle.delay.proofs.Whole.{held-whole}
 
 -- less than a whole turn of a ring comes to another place
@@ -133,6 +133,6 @@ module _ (l : DelayLine) (u : Usable l) (s : List Float) (n : ℕ) where
   pub line-tap : (most delay : Float) → toUnsigned 64 most + 1 < l .ring → tapOf (atOf (lineOf l s n)) most delay ≡ lineTap l s n most delay
   unfolding tapOf
   line-tap most delay h =
-      let d : Float = lesserOf (largerOf delay nought) most in
-      let k : toUnsigned 64 d ≤ toUnsigned 64 most = held-whole (largerOf delay nought) most in
+      let d : Float = notAbove (notBelow delay nought) most in
+      let k : toUnsigned 64 d ≤ toUnsigned 64 most = held-whole (notBelow delay nought) most in
       rw (line-at (toUnsigned 64 d) (omega arith), line-at (toUnsigned 64 d + 1) (omega arith))

@@ -26,22 +26,24 @@ pushOf r line x = take r (x ∷ line)
 abbrev pub atOf : List Float → ℕ → Float
 atOf line delay = getD line delay nan
 
--- ---- a fractional delay, by any reading of whole delays: `delay.max(0.0).min(max_delay)`, a NaN giving the other
+-- ---- a fractional delay, by any reading of whole delays
 
-abbrev pub largerOf : Float → Float → Float
-largerOf x y = cond (lt y x) x y
+-- x where it is above y, else y; and x where it is below y, else y. Each gives y for a NaN x
+abbrev pub notBelow : Float → Float → Float
+notBelow x y = cond (lt y x) x y
 
-abbrev pub lesserOf : Float → Float → Float
-lesserOf x y = cond (lt x y) x y
+abbrev pub notAbove : Float → Float → Float
+notAbove x y = cond (lt x y) x y
 
+-- the Rust's `delay.max(0.0).min(max_delay)`, in which only the delay may be NaN, and then stands for 0
 unfoldable pub tapOf : (ℕ → Float) → Float → Float → Float
 tapOf read most delay =
-    let d = lesserOf (largerOf delay nought) most in
+    let d = notAbove (notBelow delay nought) most in
     let k = toUnsigned 64 d in
     let frac = d ⊖ whole k in
     (one ⊖ frac) ⊗ read k ⊕ frac ⊗ read (k + 1)
 
--- a greatest delay that the code reads at: 0 to 65,536
+-- what `tap` asks of a greatest delay: not below 0, and below 65,536
 pub record Reach (most : Float) : Type 0 where
   pub low : T (le nought most)
   pub high : T (lt most (ofBits binary64 0x40f0_0000_0000_0000))

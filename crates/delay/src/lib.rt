@@ -3,7 +3,7 @@
 ghost use mathlib.Core.Path.{_≡_};
 ghost use Prim.Native.Nat.{_+_, _%_, _<_, _≤_};
 ghost use lib.ListN.{length};
-ghost use Rattle.delay.specs.Delay.{pushed, tapped, largerOf, lesserOf, tapOf, Reach, allZero, linePush, lineAt, lineTap};
+ghost use Rattle.delay.specs.Delay.{pushed, tapped, notBelow, notAbove, tapOf, Reach, allZero, linePush, lineAt, lineTap};
 
 // Where its ring starts in its stage's part, and how many places it has.
 pub struct DelayLine {
@@ -42,15 +42,16 @@ pub fn at(ring: &[f64], written: u64, delay: u64) -> f64
     ring[i]
 }
 
-// Rust's max: a NaN gives the other.
-fn larger(x: f64, y: f64) -> f64
-    ensures { λ r. ⌜ r ≡ largerOf x y ⌝ }
+// Rust's x.max(y) for a y that is no NaN: a NaN x gives y.
+fn not_below(x: f64, y: f64) -> f64
+    ensures { λ r. ⌜ r ≡ notBelow x y ⌝ }
 {
     if x > y { x } else { y }
 }
 
-fn lesser(x: f64, y: f64) -> f64
-    ensures { λ r. ⌜ r ≡ lesserOf x y ⌝ }
+// Rust's x.min(y) for a y that is no NaN: a NaN x gives y.
+fn not_above(x: f64, y: f64) -> f64
+    ensures { λ r. ⌜ r ≡ notAbove x y ⌝ }
 {
     if x < y { x } else { y }
 }
@@ -60,7 +61,7 @@ pub fn tap(ring: &[f64], written: u64, max_delay: f64, delay: f64) -> f64
     requires { ⌜ (0 < length (now ring)) × Reach «max_delay» ⌝ }
     ensures { λ r. ⌜ r ≡ tapOf (tapped (now (ring .entry)) written) «max_delay» delay ⌝ }
 {
-    let d = lesser(larger(delay, 0.0), max_delay);
+    let d = not_above(not_below(delay, 0.0), max_delay);
     let whole = casts::whole_part(d);
     let frac = d - std::num::nearest_u64_to_f64(whole);
     (1.0 - frac) * at(ring, written, whole) + frac * at(ring, written, whole + 1)

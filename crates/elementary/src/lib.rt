@@ -1,9 +1,9 @@
-// 01's elementary functions, each equal to its definition in specs/Elementary.antt at every float.
+// 01's SIN, COS, EXP, LN, POW and TANH, each equal to its definition in specs/Elementary.antt at every float.
 // Uses casts and std.
 ghost use mathlib.Core.Path.{_≡_};
 ghost use Prim.Native.Nat.{_<_, _≤_};
 ghost use Rattle.casts.specs.Arithmetic.{_⊗_};
-ghost use Rattle.elementary.specs.Elementary.{turn, SIN, COS, EXP, LN, POW, TANH, SINH, SQRT7200, SIN32, POW32};
+ghost use Rattle.elementary.specs.Elementary.{turn, SIN, COS, EXP, LN, POW, TANH};
 ghost use Rattle.elementary.specs.Convergent.{convergent, stepsFor};
 
 pub const TAU: f64 = 6.28318530717958647692528676655900577;
@@ -139,29 +139,4 @@ pub fn tanh(v: f64) -> f64
         return -1.0;
     }
     v / denominator(v)
-}
-
-pub fn sinh(v: f64) -> f64
-    ensures { λ r. ⌜ r ≡ SINH v ⌝ }
-{
-    (exp(v) - exp(-v)) / 2.0
-}
-
-// The f64 nearest to the root of 7200.
-pub fn sqrt_7200() -> f64
-    ensures { λ r. ⌜ r ≡ SQRT7200 ⌝ }
-{
-    84.85281374238570292810132345258188471
-}
-
-pub fn sin_f32(x: f32) -> f32
-    ensures { λ r. ⌜ r ≡ SIN32 x ⌝ }
-{
-    casts::narrow(sin(casts::widen(x)))
-}
-
-pub fn pow_f32(b: f32, p: f32) -> f32
-    ensures { λ r. ⌜ r ≡ POW32 b p ⌝ }
-{
-    casts::narrow(pow(casts::widen(b), casts::widen(p)))
 }

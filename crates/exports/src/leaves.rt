@@ -1,6 +1,7 @@
 // Filters, delay lines, ramps, the sweep, the tone and the duck.
 use automation::Tone;
 use biquad::Coefficients;
+use biquad::Lowpass;
 use biquad::Section;
 use duck::Duck;
 use onepole::OnePole;
@@ -55,10 +56,26 @@ fn five_of(s: Section) -> Coefficients {
     }
 }
 
+// A low-pass that is tuned to hz, its past being zero.
+fn lowpass_at(hz: f32) -> Lowpass {
+    let silent = Coefficients {
+        b0: 0.0,
+        b1: 0.0,
+        b2: 0.0,
+        a1: 0.0,
+        a2: 0.0,
+    };
+    let l = Lowpass {
+        first: Section::new(silent),
+        second: Section::new(silent),
+    };
+    l.retuned(hz, HZ)
+}
+
 // The sections of an order-4 low-pass.
 #[no_mangle]
 pub extern "C" fn goqhari_test_lowpass(hz: f32, first: &mut [f64; 5], second: &mut [f64; 5]) {
-    let l = biquad::butter_lowpass(hz, HZ);
+    let l = lowpass_at(hz);
     write_five(five_of(l.first), first);
     write_five(five_of(l.second), second);
 }
@@ -71,7 +88,7 @@ pub extern "C" fn goqhari_test_retuned(
     first: &mut [f64; 5],
     second: &mut [f64; 5],
 ) {
-    let l = biquad::butter_lowpass(from, HZ).step(1.0).retuned(hz, HZ);
+    let l = lowpass_at(from).step(1.0).retuned(hz, HZ);
     write_five(five_of(l.first), first);
     write_five(five_of(l.second), second);
 }

@@ -1,5 +1,9 @@
-// Thin C functions over the crates, for the Rust harness beside the part to call. Only the harness links them.
+// Thin C functions over the crates, for the Rust harness beside the part and for the replays; nothing else uses them. sinh and the f32
+// functions stand here whole, since no crate of the part calls them.
 // Rust promises nothing of what it passes: each tests lengths and bounds first, and does nothing where they do not hold.
+ghost use mathlib.Core.Path.{_≡_};
+ghost use Rattle.elementary.specs.Elementary.{SINH, SIN32, POW32};
+
 pub mod leaves;
 
 #[no_mangle]
@@ -53,16 +57,22 @@ pub extern "C" fn goqhari_test_tanh(v: f64) -> f64 {
 }
 
 #[no_mangle]
-pub extern "C" fn goqhari_test_sinh(v: f64) -> f64 {
-    elementary::sinh(v)
+pub extern "C" fn goqhari_test_sinh(v: f64) -> f64
+    ensures { λ r. ⌜ r ≡ SINH v ⌝ }
+{
+    (elementary::exp(v) - elementary::exp(-v)) / 2.0
 }
 
 #[no_mangle]
-pub extern "C" fn goqhari_test_sin_f32(x: f32) -> f32 {
-    elementary::sin_f32(x)
+pub extern "C" fn goqhari_test_sin_f32(x: f32) -> f32
+    ensures { λ r. ⌜ r ≡ SIN32 x ⌝ }
+{
+    casts::narrow(elementary::sin(casts::widen(x)))
 }
 
 #[no_mangle]
-pub extern "C" fn goqhari_test_pow_f32(b: f32, p: f32) -> f32 {
-    elementary::pow_f32(b, p)
+pub extern "C" fn goqhari_test_pow_f32(b: f32, p: f32) -> f32
+    ensures { λ r. ⌜ r ≡ POW32 b p ⌝ }
+{
+    casts::narrow(elementary::pow(casts::widen(b), casts::widen(p)))
 }

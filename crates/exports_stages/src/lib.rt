@@ -186,7 +186,7 @@ fn run(
 }
 
 fn short_of(b: u64) -> f64 {
-    casts::widen(casts::of_bits_f32((b % 4294967296) as u32))
+    casts::widen(vectors::short(b))
 }
 
 fn latched(lane: Lane, n: u64, controls: u64, grading: u64, darkening: u64) -> Lane {

@@ -9,7 +9,7 @@ use Rattle.rate.specs.Rate.{tapeSamples, plateSamples, ceilingSamples, valuesAt
 use Rattle.ramp.specs.declared.Shape.the-variants.{Linear}
 use Rattle.ramp.specs.Ramp.{held}
 use Rattle.duck.specs.Cursors.{laid}
-use Rattle.tape.specs.Tape.{freshTape}
+use Rattle.tape.specs.Kept.{freshTape}
 use Rattle.plate.specs.Plate.{freshOn}
 use Rattle.master.specs.declared.Ceiling.{Ceiling}
 use Rattle.master.specs.Kept.{ceilingFresh}

@@ -1,5 +1,5 @@
-// The lane's oscillators (lanes.rs `phase` and `Warp`, recipe.rs `PadTone`): the pad's swell, and how far behind its newest sample
-// the warp is read, of one sample and of a group of eight. Uses casts, elementary, eight and rate.
+// The lane's oscillators (lanes.rs `phase` and `Tape::process`, recipe.rs `PadTone::swell`): the pad's swell, and how far behind its
+// newest sample the warp is read, of one sample and of a group of eight. Uses casts, elementary, eight and rate.
 ghost use mathlib.Core.Path.{_≡_};
 ghost use Prim.Native.Nat.{_+_, _<_, _≤_};
 ghost use Rattle.casts.specs.Arithmetic.{_⊗_, whole};

@@ -1,5 +1,5 @@
-// The plate (plate.rs): Dattorro's plate-class reverberator, on its own part of the sample store. A line's ring is a
-// place of that part; the dampings and the high-passes are kept by value. It may use casts, stage, elementary, eight,
+// The plate (plate.rs): Dattorro's plate-class reverberator, on its own part of the sample store. A line's ring lies
+// in that part; the dampings and the high-passes are kept by value. It may use casts, stage, elementary, eight,
 // stream, onepole, biquad, delay, rate and allpass.
 use biquad::Section;
 use eight::Eight;

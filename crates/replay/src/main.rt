@@ -1,6 +1,6 @@
 // Replays a kept list of the oracle's answers, on standard input, and prints how many of the part's are alike:
 // a line for each function (name, answers, answers alike) and a total, fields parted by tabs.
-// It may use casts, elementary, vectors and the kit's io and libc.
+// It may use casts, elementary, the exported functions, vectors and the kit's io and libc.
 use vectors::Tally;
 
 // The part's answer for a function on f64; the kinds count the names in `main`.
@@ -12,7 +12,7 @@ fn answer(kind: usize, v: f64, p: f64) -> f64 {
         3 => elementary::ln(v),
         4 => elementary::pow(v, p),
         5 => elementary::tanh(v),
-        6 => elementary::sinh(v),
+        6 => exports::goqhari_test_sinh(v),
         _ => casts::floor(v),
     }
 }
@@ -20,13 +20,16 @@ fn answer(kind: usize, v: f64, p: f64) -> f64 {
 // The part's answer, as a pattern.
 fn answer_bits(kind: usize, a: u64, b: u64) -> u64 {
     match kind {
-        7 => vectors::short_bits(elementary::sin_f32(vectors::short(a))),
-        8 => vectors::short_bits(elementary::pow_f32(vectors::short(a), vectors::short(b))),
+        7 => vectors::short_bits(exports::goqhari_test_sin_f32(vectors::short(a))),
+        8 => vectors::short_bits(exports::goqhari_test_pow_f32(
+            vectors::short(a),
+            vectors::short(b),
+        )),
         9 => casts::bits_of_f64(casts::widen(vectors::short(a))),
-        10 => vectors::short_bits(casts::narrow(casts::of_bits_f64(a))),
-        12 => casts::whole_part(casts::of_bits_f64(a)),
+        10 => vectors::short_bits(casts::narrow(vectors::of_bits_f64(a))),
+        12 => casts::whole_part(vectors::of_bits_f64(a)),
         vectors::OTHER => 0,
-        _ => casts::bits_of_f64(answer(kind, casts::of_bits_f64(a), casts::of_bits_f64(b))),
+        _ => casts::bits_of_f64(answer(kind, vectors::of_bits_f64(a), vectors::of_bits_f64(b))),
     }
 }
 

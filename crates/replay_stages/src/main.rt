@@ -33,7 +33,7 @@ fn next() -> [u64; 12] {
 }
 
 fn float(b: u64) -> f64 {
-    casts::of_bits_f64(b)
+    vectors::of_bits_f64(b)
 }
 
 fn bits(x: f64) -> u64 {

@@ -15,8 +15,8 @@ use Rattle.rate.specs.declared.Rate.{Rate}
 use Rattle.rate.specs.Rate.{RateUsable, tapeSamples, plateSamples, ceilingSamples, valuesAt, tapeCounts, ceilingCounts, positionsAt}
 use Rattle.ranges.specs.Ranges.{risingFrom}
 use Rattle.duck.specs.Cursors.{kicksIn, laid}
-use Rattle.tape.specs.Tape.{Lists, freshTape, freshTapeMachine}
-use Rattle.tape.specs.Kept.{TapeIn, tapeOn}
+use Rattle.tape.specs.Tape.{Lists, freshTapeMachine}
+use Rattle.tape.specs.Kept.{TapeIn, tapeOn, freshTape}
 use Rattle.tape.proofs.Related.{TapeHolds, tape-fresh}
 use Rattle.plate.specs.Machine.{freshPlate}
 use Rattle.plate.specs.Plate.{PlateIn, plateOn, freshOn}

@@ -14,8 +14,8 @@ use Rattle.rate.specs.declared.Rate.{Rate}
 use Rattle.rate.specs.declared.PlateRate.{PlateRate}
 use Rattle.rate.specs.Rate.{tapeSamples, plateSamples, ceilingSamples, valuesAt, tapeCounts, ceilingCounts, positionsAt}
 use Rattle.duck.specs.Cursors.{duckOn, kicksIn, laid, duckFormed}
-use Rattle.tape.specs.Tape.{Lists, freshTape}
-use Rattle.tape.specs.Kept.{TapeIn, tapeOn, untuned, tapeStepOn, tapeAtRestOn}
+use Rattle.tape.specs.Tape.{Lists}
+use Rattle.tape.specs.Kept.{TapeIn, tapeOn, untuned, tapeStepOn, freshTape, tapeAtRestOn}
 use Rattle.plate.specs.Plate.{PlateIn, plateOn, plateStepOn, freshOn, atRestOn}
 use Rattle.master.specs.declared.Heard.{Heard}
 use Rattle.master.specs.Kept.{CeilingIn, ceilingOn, ceilingStepOn, ceilingFresh, framesOut, countsOut}

@@ -38,8 +38,8 @@ use Rattle.automation.proofs.Span.{same-tuning}
 use Rattle.tape.specs.declared.Tape.{Tape}
 use Rattle.tape.specs.declared.TapeSetup.{TapeSetup}
 use Rattle.oscillators.specs.Oscillators.{warpDelay}
-use Rattle.tape.specs.Tape.{Lists, TapeMachine, duckedStep, tapeStep, saturated, freshTape, freshTapeMachine, tapeAtRest}
-use Rattle.tape.specs.Kept.{TapeIn, tapeOn, frontStepOn, duckedStepOn, tapeTuned, tunedAfresh, tunedAt, untuned, tapeStepOn, tapeAtRestOn}
+use Rattle.tape.specs.Tape.{Lists, TapeMachine, duckedStep, tapeStep, saturated, freshTapeMachine, tapeAtRest}
+use Rattle.tape.specs.Kept.{TapeIn, tapeOn, frontStepOn, duckedStepOn, tapeTuned, tunedAfresh, tunedAt, untuned, tapeStepOn, freshTape, tapeAtRestOn}
 use Rattle.tape.proofs.Lasting.{tuned-some, tuned-equalizer, tuned-duck}
 
 -- the last tuning counts alone

@@ -1,11 +1,11 @@
--- The lane as it is kept: the warp as a ring in its part of the sample store, the duck with its cursors in its part of the count store. Definitions only.
+-- The lane as it is kept: the warp as a ring in its part of the sample store, the duck with its cursors in its part of the count store, and a tuning as long as it lasts. Definitions only.
 use Prim.Native.Nat.{ℕ, _+_, _<_, _≤_}
 use mathlib.Core.Bool.{Bool, true, false, cond, _&&_}
 use mathlib.Core.List.{List}
 use lib.Dec.{ltb}
 use lib.ListN.{length}
 use lib.Ieee.{Float}
-use Rattle.casts.specs.Arithmetic.{_⊗_}
+use Rattle.casts.specs.Arithmetic.{_⊗_, nought}
 use Rattle.elementary.specs.Elementary.{TANH}
 use Rattle.eight.specs.Each.{saturatedOver}
 use Rattle.stage.specs.Stage.{Step, Stage, identity}
@@ -23,7 +23,7 @@ use Rattle.oscillators.specs.Oscillators.{swellOf, warpDelay}
 use Rattle.tape.specs.declared.Tape.{Tape}
 use Rattle.tape.specs.declared.TapeSetup.{TapeSetup}
 use Rattle.tape.specs.declared.Equalizer.{Equalizer}
-use Rattle.tape.specs.Tape.{equalizerStep, equalizerAtRest, Lists}
+use Rattle.tape.specs.Tape.{equalizerStep, freshTone, freshEqualizer, equalizerAtRest, Lists}
 
 -- ---- the passes
 
@@ -107,6 +107,18 @@ untuned t = record { tone = t .tone; equalizer = t .equalizer; duck = t .duck; d
 unfoldable pub tapeStepOn : TapeRate → TapeSetup → Ramp → Ramp → Lists → Bool → Stage TapeIn Float Float
 tapeStepOn r s daylight rain l d n t x =
     tapeTuned r s rain d n (tapeOn (tunedAt r (s .tone) daylight (l .positions) (l .values) n (t .tape)) (t .ring) (t .counts)) x
+
+-- fresh, with so many kicks: tuned for no position, no kick reached
+unfoldable pub freshTape : TapeRate → ℕ → Tape
+freshTape r kicks =
+    record {
+      tone = freshTone;
+      equalizer = freshEqualizer r;
+      duck = record { count = kicks; reached = 0; ducking = 0 };
+      drive = nought;
+      top = nought;
+      until = 0;
+    }
 
 unfoldable pub tapeAtRestOn : Lowpass → Equalizer → List Float → Bool
 tapeAtRestOn tone e ring = lowpassAtRest tone && (equalizerAtRest e && allZero ring)

@@ -1,4 +1,4 @@
--- Document 01, 'One sample through the lane', on histories, and without caches. Definitions only.
+-- Document 01, 'One sample through the lane', on histories, tuned anew at every sample. Definitions only.
 use Prim.Native.Nat.{ℕ}
 use mathlib.Core.Bool.{Bool, true, false, cond, _&&_}
 use mathlib.Core.List.{List}
@@ -22,7 +22,6 @@ use Rattle.duck.specs.Duck.{duckStep, unmarked}
 use Rattle.oscillators.specs.Oscillators.{swellOf, warpDelay}
 use Rattle.tape.specs.declared.TapeSetup.{TapeSetup}
 use Rattle.tape.specs.declared.Equalizer.{Equalizer}
-use Rattle.tape.specs.declared.Tape.{Tape}
 
 -- "TANH(x·drive)/TANH(drive)."
 unfoldable pub saturated : Float → Float → Float
@@ -84,17 +83,6 @@ freshEqualizer r =
       bump = sectionAt (r .bump);
       rolloff = record { first = sectionAt (r .first); second = sectionAt (r .second) };
       tilt = record { pole = r .tilt; y = nought };
-    }
-
-unfoldable pub freshTape : TapeRate → ℕ → Tape
-freshTape r kicks =
-    record {
-      tone = freshTone;
-      equalizer = freshEqualizer r;
-      duck = record { count = kicks; reached = 0; ducking = 0 };
-      drive = nought;
-      top = nought;
-      until = 0;
     }
 
 unfoldable pub freshTapeMachine : TapeRate → List ℕ → TapeMachine

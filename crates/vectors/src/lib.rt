@@ -1,8 +1,10 @@
-// What the replays share: names and numbers in a line of a kept list, and the tally of the answers that are alike.
+// What the replays share: names and numbers in a line of a kept list, bit patterns, and the tally of the answers that are alike.
 // A line begins with the name of what is answered, and its numbers are of 16 digits with a byte after each. A list of names
 // has 8 bytes for each of at most 15, and blanks after a shorter one. What lies past the end of a list reads as a blank.
 // It may use casts and the kit's io and libc.
+ghost use mathlib.Core.Path.{_≡_};
 ghost use Prim.Native.Nat.{_<_, _≤_};
+ghost use lib.Ieee.{binary32, binary64, toBits, ofBits};
 
 // The kind of what has no name.
 pub const OTHER: usize = 15;
@@ -65,13 +67,42 @@ pub fn numbers(line: &[u8], from: usize) -> [u64; 12]
     out
 }
 
+// The value of a bit pattern; every NaN pattern gives NaN.
+pub fn of_bits_f64(b: u64) -> f64
+    ensures { λ r. ⌜ r ≡ ofBits binary64 b ⌝ }
+{
+    if b % 9223372036854775808 > 9218868437227405312 {
+        return 0.0 / 0.0;
+    }
+    f64::from_bits(b)
+}
+
+fn of_bits_f32(b: u32) -> f32
+    ensures { λ r. ⌜ r ≡ ofBits binary32 b ⌝ }
+{
+    if b % 2147483648 > 2139095040 {
+        return 0.0 / 0.0;
+    }
+    f32::from_bits(b)
+}
+
+// The bits of x; a NaN has the pattern with only the highest digit set.
+fn bits_of_f32(x: f32) -> u32
+    ensures { λ r. ⌜ r ≡ toBits binary32 x ⌝ }
+{
+    if x != x {
+        return 0x7fc0_0000;
+    }
+    f32::to_bits(x)
+}
+
 // The f32 of a pattern in a number's lower half, and its pattern.
 pub fn short(b: u64) -> f32 {
-    casts::of_bits_f32((b % 4294967296) as u32)
+    of_bits_f32((b % 4294967296) as u32)
 }
 
 pub fn short_bits(x: f32) -> u64 {
-    casts::bits_of_f32(x) as u64
+    bits_of_f32(x) as u64
 }
 
 // How many letters the name at `at` has.

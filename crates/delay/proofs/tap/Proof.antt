@@ -2,20 +2,20 @@ use mathlib.Core.Path.{_≡_}
 use Prim.Native.Nat.{_<_}
 use native.Mathlib.Omega.{arith}
 use Rattle.casts.specs.Arithmetic.{nought}
-use Rattle.delay.specs.Delay.{largerOf, lesserOf, tapOf}
+use Rattle.delay.specs.Delay.{notBelow, notAbove, tapOf}
 use Rattle.delay.proofs.Whole.{held-small}
 use borrow.Author.Needs.{needs}
 use Rattle.delay.proofs.tap.Statement.{statement}
 use Rattle.delay.proofs.tap.Tie as tie
 
-larger-requires : tie.Need-larger-requires
-larger-requires c κs = search needs
+not-below-requires : tie.Need-not-below-requires
+not-below-requires c κs = search needs
 
-lesser-requires : tie.Need-lesser-requires
-lesser-requires c κs = search needs
+not-above-requires : tie.Need-not-above-requires
+not-above-requires c κs = search needs
 
-is-held : (c : tie.After-lesser) → c .lesser .result ≡ lesserOf (largerOf (c .before .before .before .args .delay) nought) (c .before .before .before .args .max-delay)
-is-held c = rw (c .lesser .ensures, c .before .larger .ensures)
+is-held : (c : tie.After-not-above) → c .not-above .result ≡ notAbove (notBelow (c .before .before .before .args .delay) nought) (c .before .before .before .args .max-delay)
+is-held c = rw (c .not-above .ensures, c .before .not-below .ensures)
 
 small : (c : tie.After-whole-part) → c .whole-part .result < 4294967295
 small c = let h = held-small (c .before .before .before .before .args .delay) (c .before .before .before .before .args .max-delay) (c .before .before .before .before .pre .1) in
@@ -44,8 +44,8 @@ pub tap-spec : {M : Type 1} → statement M
 tap-spec =
     tie.close
     (tie.spec
-    larger-requires
-    lesser-requires
+    not-below-requires
+    not-above-requires
     whole-part-requires
     nearest-u64-to-f64-requires
     at-requires

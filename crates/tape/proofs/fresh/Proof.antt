@@ -1,4 +1,5 @@
-use Rattle.tape.specs.Tape.{freshTape, freshTone, freshEqualizer}
+use Rattle.tape.specs.Tape.{freshTone, freshEqualizer}
+use Rattle.tape.specs.Kept.{freshTape}
 use borrow.Author.Needs.{needs}
 use Rattle.tape.proofs.fresh.Statement.{statement}
 use Rattle.tape.proofs.fresh.Tie as tie

@@ -1,7 +1,7 @@
--- `elementary::pow_f32` meets its contract. Assumes nothing.
+-- `exports::goqhari_test_pow_f32` meets its contract. Assumes nothing.
 use borrow.Author.Needs.{needs}
-use Rattle.elementary.proofs.pow_f32.Statement.{statement}
-use Rattle.elementary.proofs.pow_f32.Tie as tie
+use Rattle.exports.proofs.goqhari_test_pow_f32.Statement.{statement}
+use Rattle.exports.proofs.goqhari_test_pow_f32.Tie as tie
 
 widen-requires : tie.Need-widen-requires
 widen-requires c κs = search needs
@@ -18,5 +18,5 @@ narrow-requires c κs = search needs
 returns : tie.Need-returns
 returns c = rw (c .narrow .ensures, c .before .pow .ensures, c .before .before .widen2 .ensures, c .before .before .before .widen .ensures)
 
-pub pow-f32-spec : {M : Type 1} → statement M
-pow-f32-spec = tie.close (tie.spec widen-requires widen-requires-2 pow-requires narrow-requires returns)
+pub goqhari-test-pow-f32-spec : {M : Type 1} → statement M
+goqhari-test-pow-f32-spec = tie.close (tie.spec widen-requires widen-requires-2 pow-requires narrow-requires returns)

@@ -1,7 +1,7 @@
--- `elementary::sin_f32` meets its contract. Assumes nothing.
+-- `exports::goqhari_test_sin_f32` meets its contract. Assumes nothing.
 use borrow.Author.Needs.{needs}
-use Rattle.elementary.proofs.sin_f32.Statement.{statement}
-use Rattle.elementary.proofs.sin_f32.Tie as tie
+use Rattle.exports.proofs.goqhari_test_sin_f32.Statement.{statement}
+use Rattle.exports.proofs.goqhari_test_sin_f32.Tie as tie
 
 widen-requires : tie.Need-widen-requires
 widen-requires c κs = search needs
@@ -15,5 +15,5 @@ narrow-requires c κs = search needs
 returns : tie.Need-returns
 returns c = rw (c .narrow .ensures, c .before .sin .ensures, c .before .before .widen .ensures)
 
-pub sin-f32-spec : {M : Type 1} → statement M
-sin-f32-spec = tie.close (tie.spec widen-requires sin-requires narrow-requires returns)
+pub goqhari-test-sin-f32-spec : {M : Type 1} → statement M
+goqhari-test-sin-f32-spec = tie.close (tie.spec widen-requires sin-requires narrow-requires returns)

@@ -1,10 +1,10 @@
--- `casts::of_bits_f64` meets its contract. Assumes nothing.
+-- `vectors::of_bits_f64` meets its contract. Assumes nothing.
 use mathlib.Core.Path.{_∙_}
 use borrow.Author.Needs.{needs}
 use lib.Ieee.{binary64}
 use Rattle.casts.proofs.Split.{zero-by-zero, reads-nan, reads-number}
-use Rattle.casts.proofs.of_bits_f64.Statement.{statement}
-use Rattle.casts.proofs.of_bits_f64.Tie as tie
+use Rattle.vectors.proofs.of_bits_f64.Statement.{statement}
+use Rattle.vectors.proofs.of_bits_f64.Tie as tie
 
 returns : tie.Need-returns
 returns c = zero-by-zero binary64 ∙ reads-nan binary64 (c .before .args .b) (c .if1 .taken)

@@ -1,9 +1,9 @@
--- `casts::bits_of_f32` meets its contract. Assumes nothing.
+-- `vectors::bits_of_f32` meets its contract. Assumes nothing.
 use borrow.Author.Needs.{needs}
 use lib.Ieee.{binary32, toBits}
 use Rattle.casts.proofs.Split.{nan-bits, no-nan}
-use Rattle.casts.proofs.bits_of_f32.Statement.{statement}
-use Rattle.casts.proofs.bits_of_f32.Tie as tie
+use Rattle.vectors.proofs.bits_of_f32.Statement.{statement}
+use Rattle.vectors.proofs.bits_of_f32.Tie as tie
 
 returns : tie.Need-returns
 unfolding toBits
