@@ -2,7 +2,7 @@
 use mathlib.Core.Path.{_≡_, refl, sym, ap, _∙_, subst}
 use mathlib.Core.Logic.{_⊎_, inl, inr}
 use Prim.Native.Nat.{ℕ, suc, _+_, _-_, _*_, _/_, _%_, _^_, _≤_, _<_}
-use native.Mathlib.Nat.{le-trans, le-of-eq, le-of-lt, mul-assoc, mul-le-mul-right, mod-eq-of-lt, zero-add}
+use native.Mathlib.Nat.{le-trans, le-of-eq, le-of-lt, mul-assoc, mul-le-mul-right, zero-add}
 use native.Mathlib.Omega.{arith}
 use mathlib.Core.Bool.{Bool, true, false}
 use native.Mathlib.Decide.{decLt}
@@ -134,17 +134,16 @@ widens-low m lo hi = go (leading-top 32 m lo (wide m hi))
               (shift m (z + 21) (904 - z) 149 ∙ ap (λ (x : ℕ). m * 2 ^ x) (places z i h) ∙ sym (shift-two m 0 1074)) (le-of-lt q-lt) (inr q-ge);
         }
 
--- the same, as the code has it: z and w are what a call returned, and a shift to the left is a product cut at 64 bits
-pub widens-shifted : (m z w : ℕ) → 0 < m → m < 8388608 → z ≡ leadingZeros 32 m → w ≡ m → Widens m ((904 - z) * 4503599627370496 + w * 2 ^ (z + 21) % 18446744073709551616)
-widens-shifted m z w lo hi e f =
-    subst (λ (r : ℕ). Widens m r)
-    (ap (λ (x : ℕ). (904 - leadingZeros 32 m) * 4503599627370496 + x) (sym (mod-eq-of-lt (more (m * 2 ^ (leadingZeros 32 m + 21)) (low-shift m lo hi))))
-    ∙ ap (λ (x : ℕ). (904 - x) * 4503599627370496 + m * 2 ^ (x + 21) % 18446744073709551616) (sym e)
-    ∙ ap (λ (x : ℕ). (904 - z) * 4503599627370496 + x * 2 ^ (z + 21) % 18446744073709551616) (sym f))
-    (widens-low m lo hi)
-  where
-    more : (x : ℕ) → x < 2 ^ 53 → x < 18446744073709551616
-    more x h = omega arith
+-- the same of what the code's calls returned: z zeros, and the fraction w
+module _ (m z w : ℕ) (lo : 0 < m) (hi : m < 8388608) (e : z ≡ leadingZeros 32 m) (f : w ≡ m) where
+  pub shift-fits : w * 2 ^ (z + 21) < 18446744073709551616
+  shift-fits = rw (e, f) (more (m * 2 ^ (leadingZeros 32 m + 21)) (low-shift m lo hi))
+    where
+      more : (x : ℕ) → x < 2 ^ 53 → x < 18446744073709551616
+      more x h = omega arith
+
+  pub widens-shifted : (q : ℕ) → q ≡ w * 2 ^ (z + 21) → Widens m ((904 - z) * 4503599627370496 + q)
+  widens-shifted q g = rw (g, e, f) (widens-low m lo hi)
 
 -- ---- a pattern with the field of a normal f32 and no digit below an f32's
 placed : (s : Bool) (b : ℕ) → 897 ≤ b / 4503599627370496 → b / 4503599627370496 < 1151 → b % 536870912 ≡ 0 → T (fits binary32 (ofBits binary64 (signed binary64 s b)))
