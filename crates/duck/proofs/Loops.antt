@@ -3,12 +3,13 @@ use mathlib.Core.Path.{_≡_, refl, sym, ap, _∙_}
 use mathlib.Core.Bool.{Bool, true, false, cond, _&&_, and-eq-true-iff}
 use Prim.Native.Nat.{ℕ, zero, suc, _+_, _-_, _<_, _≤_}
 use native.Mathlib.Omega.{arith}
+use native.Mathlib.Nat.{zero-add, suc-add}
 use native.Mathlib.Numerals.{add-one}
 use native.Mathlib.Decide.{decLt}
-use mathlib.Core.List.{List, [], _∷_, _++_}
+use mathlib.Core.List.{List, [], _∷_, _++_, append-assoc}
 use lib.Dec.{leb}
-use lib.ListN.{length, take, drop, getD, set, length-set, length-map, length-drop, drop-of-length-le, List·getD-map}
-use lib.Seq.{drop-cons, getD-take, getD-drop, length-take-le, take-suc, take-length, append-snoc, set-at}
+use lib.ListN.{length, take, drop, getD, set, replicate, length-append, length-set, length-map, length-drop, length-replicate, replicate-append-replicate, drop-of-length-le, List·getD-map}
+use lib.Seq.{drop-cons, getD-take, getD-drop, length-take-le, take-suc, take-length, take-append-seam, append-snoc, set-at, set-append-left}
 use lib.Ieee.{Float}
 use borrow.Author.Tests.{leb-true, le-leb, lt-leb}
 use Rattle.casts.specs.Arithmetic.{one}
@@ -17,16 +18,66 @@ use Rattle.sidechain.specs.declared.DuckRate.{DuckRate}
 use Rattle.sidechain.specs.Sidechain.{span, releases}
 use Rattle.duck.specs.Cursors.{DuckIn, duckOn, laid, isMark, flag, kicksIn, marksIn, Reached, reachedAt, reach, released, timesGain, timesUntil, gave, gainOn, Within}
 
--- ---- a list that is laid at the front of a part
+-- ---- the kicks laid and unmarked, one after the other
 
-pub laid-turn : (ks u : List ℕ) (j : ℕ) → j < length ks → j < length u → set (take j ks ++ drop j u) j (getD ks j 0) ≡ take (j + 1) ks ++ drop (j + 1) u
-laid-turn ks u j h k =
+put-turn : (ks u : List ℕ) (j : ℕ) → j < length ks → j < length u → set (take j ks ++ drop j u) j (getD ks j 0) ≡ take (j + 1) ks ++ drop (j + 1) u
+put-turn ks u j h k =
     ap (λ (l : List ℕ). set (take j ks ++ l) j (getD ks j 0)) (drop-cons u j 0 k)
     ∙ set-at (take j ks) (getD u j 0) (drop (suc j) u) (getD ks j 0) j (length-take-le j ks (omega arith))
     ∙ rw (add-one j, take-suc ks j 0 h, append-snoc)
 
-pub laid-done : (ks u : List ℕ) (j : ℕ) → j ≤ length ks → length ks ≤ j → duckOn (record { count = j; reached = 0; ducking = 0 }) (take j ks ++ drop j u) ≡ laid ks u
-laid-done ks u j h k = let e : j ≡ length ks = omega arith in rw (e, take-length ks)
+clear-turn : (u : List ℕ) (j : ℕ) → j < length u → set (replicate j 0 ++ drop j u) j 0 ≡ replicate (j + 1) 0 ++ drop (j + 1) u
+clear-turn u j k =
+    ap (λ (l : List ℕ). set (replicate j 0 ++ l) j 0) (drop-cons u j 0 k)
+    ∙ set-at (replicate j 0) (getD u j 0) (drop (suc j) u) 0 j (length-replicate {A = ℕ} j 0)
+    ∙ rw (← replicate-append-replicate {A = ℕ} j 1 0, append-snoc, add-one j)
+
+set-behind : (xs ys : List ℕ) (i n v : ℕ) → length xs ≡ n → set (xs ++ ys) (n + i) v ≡ xs ++ set ys i v
+set-behind xs ys i n v e = rw (← e) (go xs)
+  where
+    go : (xs : List ℕ) → set (xs ++ ys) (length xs + i) v ≡ xs ++ set ys i v
+    go [] = rw (zero-add i)
+    go (x ∷ xs) = rw (suc-add (length xs) i) (ap (λ (l : List ℕ). x ∷ l) (go xs))
+
+-- the first j of them
+abbrev pub laidUpTo : ℕ → List ℕ → List ℕ → List ℕ
+laidUpTo j ks u = (take j ks ++ drop j (take 1024 u)) ++ (replicate j 0 ++ drop j (drop 1024 u))
+
+module _ (ks u : List ℕ) (few : length ks ≤ 1024) (wide : 2048 ≤ length u) where
+  front-length : (j : ℕ) → j ≤ length ks → length (take j ks ++ drop j (take 1024 u)) ≡ 1024
+  front-length j h =
+      let a = length-take-le j ks h in
+      let b = length-take-le 1024 u (omega arith) in
+      let c = length-drop j (take 1024 u) in
+      length-append (take j ks) (drop j (take 1024 u)) ∙ omega arith
+
+  pub laid-turn : (j : ℕ) → j < length ks → set (set (laidUpTo j ks u) j (getD ks j 0)) (1024 + j) 0 ≡ laidUpTo (j + 1) ks u
+  laid-turn j h =
+      let front = take j ks ++ drop j (take 1024 u) in
+      let next = take (j + 1) ks ++ drop (j + 1) (take 1024 u) in
+      let marks = replicate j 0 ++ drop j (drop 1024 u) in
+      let a = front-length j (omega arith) in
+      let b = length-take-le 1024 u (omega arith) in
+      let c = length-drop 1024 u in
+      ap (λ (l : List ℕ). set l (1024 + j) 0) (set-append-left front marks j (getD ks j 0) (omega arith) ∙ ap (λ (l : List ℕ). l ++ marks) (put-turn ks (take 1024 u) j h (omega arith)))
+      ∙ set-behind next marks j 1024 0 (front-length (j + 1) (omega arith))
+      ∙ ap (λ (l : List ℕ). next ++ l) (clear-turn (drop 1024 u) j (omega arith))
+
+  pub laid-done : (j : ℕ) → j ≤ length ks → length ks ≤ j → duckOn (record { count = j; reached = 0; ducking = 0 }) (laidUpTo j ks u) ≡ laid ks u
+  laid-done j h k = let e : j ≡ length ks = omega arith in rw (e, take-length ks)
+
+  pub laid-length : length (laid ks u .part) ≡ length u
+  laid-length =
+      let front = ks ++ drop (length ks) (take 1024 u) in
+      let a : length front ≡ 1024 = rw (take-length ks) at (front-length (length ks) (omega arith)) in
+      let b = length-replicate {A = ℕ} (length ks) 0 in
+      let c = length-drop (length ks) (drop 1024 u) in
+      let d = length-drop 1024 u in
+      let e = length-append {A = ℕ} (replicate (length ks) 0) (drop (length ks) (drop 1024 u)) in
+      length-append front (replicate (length ks) 0 ++ drop (length ks) (drop 1024 u)) ∙ omega arith
+
+  pub laid-kicks : kicksIn (length ks) (laid ks u .part) ≡ ks
+  laid-kicks = rw (append-assoc ks) (take-append-seam ks _)
 
 -- ---- the tests of a kick, with no sum that could wrap
 

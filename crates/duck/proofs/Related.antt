@@ -7,8 +7,8 @@ use native.Mathlib.Decide.{decLt}
 use native.Mathlib.Omega.{arith}
 use mathlib.Core.List.{List, [], _∷_}
 use lib.Dec.{leb, ltb, eqb}
-use lib.ListN.{length, drop, getD, set, length-append, length-set, length-drop, length-map}
-use lib.Seq.{getD-drop, getD-set-same, getD-set-other, take-set-le, take-append-seam, getD-take}
+use lib.ListN.{length, drop, getD, set, length-set, length-drop, length-map}
+use lib.Seq.{getD-drop, getD-set-same, getD-set-other, take-set-le, getD-take}
 use lib.Ieee.{Float}
 use borrow.Author.Tests.{leb-true, leb-false, le-leb, lt-leb, lt-ltb, le-ltb, eq-eqb, ne-eqb}
 use Rattle.casts.specs.Arithmetic.{_⊗_, one}
@@ -18,7 +18,7 @@ use Rattle.sidechain.specs.Sidechain.{span, sidechainGain}
 use Rattle.duck.specs.Duck.{marksAt, ducks, timesGains, unmarked, duckStep}
 use Rattle.ranges.specs.Ranges.{risingFrom}
 use Rattle.duck.specs.Cursors.{DuckIn, laid, isMark, flag, kicksIn, marksIn, Reached, reachedAt, reach, released, timesUntil, gainOn, duckStepOn, Within, duckFormed}
-use Rattle.duck.proofs.Loops.{kicks-length, marks-length, marks-get, gain-within}
+use Rattle.duck.proofs.Loops.{laid-length, laid-kicks, kicks-length, marks-length, marks-get, gain-within}
 
 -- ---- a list that never falls
 
@@ -313,12 +313,12 @@ duck-relates r kicks d =
       same = λ n marks s x h. ap (λ (g : Float). x ⊗ g) (same-gain r kicks d n marks s h);
     }
 
--- before the first sample, whatever the marks' places hold
+-- before the first sample
 pub duck-fresh : (r : DuckRate) (kicks part : List ℕ) → length kicks ≤ 1024 → 2048 ≤ length part → risingFrom 0 kicks ≡ true → DuckHolds r kicks 0 (unmarked kicks) (laid kicks part)
 duck-fresh r kicks part few wide risen =
     record {
-      within = record { sized = simp (length-append, length-drop) (omega arith); few = few; reached = omega arith; ducking = omega arith };
-      kept = take-append-seam kicks (drop (length kicks) part);
+      within = record { sized = rw (laid-length kicks part few wide) wide; few = few; reached = omega arith; ducking = omega arith };
+      kept = laid-kicks kicks part few wide;
       risen = risen;
       sized = length-map kicks (λ (k : ℕ). false);
       before = λ j i. absurd (omega arith);

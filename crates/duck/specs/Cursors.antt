@@ -4,7 +4,7 @@ use Prim.Native.Nat.{ℕ, zero, suc, _+_, _-_, _≤_}
 use mathlib.Core.Bool.{Bool, not, cond, _&&_}
 use mathlib.Core.List.{List, [], _∷_, _++_, map}
 use lib.Dec.{leb, eqb}
-use lib.ListN.{length, take, drop, getD, set}
+use lib.ListN.{length, take, drop, getD, set, replicate}
 use lib.Ieee.{Float}
 use Rattle.casts.specs.Arithmetic.{_⊗_, one}
 use Rattle.stage.specs.Stage.{Stage, Step}
@@ -20,9 +20,13 @@ pub record DuckIn : Type 0 where
 abbrev pub duckOn : Duck → List ℕ → DuckIn
 duckOn duck part = record { duck = duck; part = part }
 
--- `Duck::new`: the kicks at the front of the part, and the cursors at the first
+-- the kicks at the front of a part, and no kick marked
+abbrev pub kicksLaid : List ℕ → List ℕ → List ℕ
+kicksLaid kicks part = (kicks ++ drop (length kicks) (take 1024 part)) ++ (replicate (length kicks) 0 ++ drop (length kicks) (drop 1024 part))
+
+-- `Duck::new`: the cursors at the first kick
 abbrev pub laid : List ℕ → List ℕ → DuckIn
-laid kicks part = duckOn (record { count = length kicks; reached = 0; ducking = 0 }) (kicks ++ drop (length kicks) part)
+laid kicks part = duckOn (record { count = length kicks; reached = 0; ducking = 0 }) (kicksLaid kicks part)
 
 abbrev pub gave : Duck → List ℕ → Float → Step DuckIn Float
 gave duck part gain = record { next = duckOn duck part; out = gain }

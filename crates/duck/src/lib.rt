@@ -35,7 +35,7 @@ const KICKS: usize = 1024;
 // ---- the kicks
 
 impl Duck {
-    // Keeps the kicks in the duck's part. The marks' places stay as they are: a kick is marked before its mark is read.
+    // Keeps the kicks in the duck's part, with no kick marked: a product may look at a mark before its kick is reached.
     pub fn new(kicks: &[u64], counts: &mut [u64]) -> Self
         requires { ⌜ (length (now kicks) ≤ 1024) × (2048 ≤ length (now counts)) ⌝ }
         ensures { λ r. ⌜ duckOn r (now (counts .exit)) ≡ laid (now (kicks .entry)) (now (counts .entry)) ⌝ }
@@ -43,6 +43,7 @@ impl Duck {
         let mut i: usize = 0;
         while i < kicks.len() {
             counts[i] = kicks[i];
+            counts[KICKS + i] = 0;
             i += 1;
         }
         Self {

@@ -14,6 +14,7 @@ use Rattle.rate.specs.declared.Rate.{Rate}
 use Rattle.rate.specs.Rate.{tapeSamples, plateSamples, ceilingSamples, valuesAt, tapeCounts, ceilingCounts, positionsAt}
 use Rattle.duck.specs.declared.Duck.{Duck}
 use Rattle.duck.specs.Cursors.{DuckIn, duckOn, laid}
+use Rattle.duck.proofs.Loops.{laid-length}
 use Rattle.master.specs.declared.Ceiling.{Ceiling}
 use Rattle.master.specs.Kept.{CeilingIn, ceilingOn, ceilingFresh}
 use Rattle.opening.specs.Pieces.{over, silenced, listed, ceiled, ceiledFresh}
@@ -99,9 +100,9 @@ module _ (r : Rate) where
       → take p (Z ++ drop tapeCounts u) ++ (W ++ drop k (drop p (Z ++ drop tapeCounts u))) ≡ listed r positions kicks u
   unfolding listed
   counts-laid positions kicks u Z W d p k ep room few ez ek ew =
-      let q : Z ≡ over kicks (take tapeCounts u) = ap (λ (s : DuckIn). s .part) ez in
+      let q : Z ≡ laid kicks (take tapeCounts u) .part = ap (λ (s : DuckIn). s .part) ez in
       let n : length (take tapeCounts u) ≡ tapeCounts = length-take-le tapeCounts u (omega arith) in
-      let z : length Z ≡ tapeCounts = ap length q ∙ length-append kicks (drop (length kicks) (take tapeCounts u)) ∙ ap (λ (m : ℕ). length kicks + m) (length-drop (length kicks) (take tapeCounts u)) ∙ omega arith in
+      let z : length Z ≡ tapeCounts = ap length q ∙ laid-length kicks (take tapeCounts u) few (omega arith) ∙ n in
       front-back tapeCounts (ceilingCounts r) p k u Z positions W (omega arith) ep z ek ew
       ∙ rw (q, ep)
 

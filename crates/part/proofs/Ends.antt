@@ -4,7 +4,7 @@ use mathlib.Core.Bool.{Bool, true, false}
 use Prim.Native.Nat.{ℕ, _+_, _-_}
 use native.Mathlib.Omega.{arith}
 use mathlib.Core.List.{List, _++_, append-assoc}
-use lib.ListN.{length, take, drop, replicate, length-append, length-drop, length-replicate, replicate-append-replicate}
+use lib.ListN.{length, take, drop, replicate, length-drop, length-replicate, replicate-append-replicate}
 use lib.Seq.{take-at, drop-at, drop-drop, length-take-le}
 use lib.Ieee.{Float}
 use borrow.Author.Tests.{eq-eqb, ne-eqb}
@@ -12,6 +12,7 @@ use Rattle.casts.specs.Arithmetic.{nought}
 use Rattle.rate.specs.declared.Rate.{Rate}
 use Rattle.rate.specs.Rate.{tapeSamples, plateSamples, ceilingSamples, valuesAt, tapeCounts, ceilingCounts, positionsAt, RateUsable}
 use Rattle.duck.specs.Cursors.{laid}
+use Rattle.duck.proofs.Loops.{laid-length}
 use Rattle.tape.specs.Tape.{Lists}
 use Rattle.tape.specs.Kept.{tapeAtRestOn}
 use Rattle.plate.specs.Plate.{plateOn, atRestOn}
@@ -102,10 +103,8 @@ module _ (r : Rate) (usable : RateUsable r) (s : Setup) (l : Lists) (store : Lis
       let g = o .sized .wide in
       let x = usable .samples in
       let y = usable .counts in
-      let few = o .kicks in
       let n : length (take tapeCounts counts) ≡ tapeCounts = length-take-le tapeCounts counts (omega arith) in
-      let a : length (laid (l .kicks) (take tapeCounts counts) .part) ≡ tapeCounts =
-      length-append (l .kicks) (drop (length (l .kicks)) (take tapeCounts counts)) ∙ ap (λ (m : ℕ). length (l .kicks) + m) (length-drop (length (l .kicks)) (take tapeCounts counts)) ∙ omega arith in
+      let a : length (laid (l .kicks) (take tapeCounts counts) .part) ≡ tapeCounts = laid-length (l .kicks) (take tapeCounts counts) (o .kicks) (omega arith) ∙ n in
       ceiled-apart r (replicate (tapeSamples r + plateSamples r) nought) ceilingSample (over (l .values) (drop (valuesAt r) store)) (laid (l .kicks) (take tapeCounts counts) .part) ceilingCount (over (l .positions) (drop (positionsAt r) counts))
       (length-replicate (tapeSamples r + plateSamples r) nought)
       (length-take-le (ceilingSamples r) (drop (tapeSamples r + plateSamples r) store) (rw length-drop (omega arith)))

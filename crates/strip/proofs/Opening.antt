@@ -15,6 +15,7 @@ use Rattle.rate.specs.declared.Rate.{Rate}
 use Rattle.rate.specs.Rate.{RateUsable, tapeSamples, plateSamples, ceilingSamples, valuesAt, tapeCounts, ceilingCounts, positionsAt}
 use Rattle.ranges.specs.Ranges.{risingFrom}
 use Rattle.duck.specs.Cursors.{kicksIn, laid}
+use Rattle.duck.proofs.Loops.{laid-length, laid-kicks}
 use Rattle.tape.specs.Tape.{Lists, freshTapeMachine}
 use Rattle.tape.specs.Kept.{TapeIn, tapeOn, freshTape}
 use Rattle.tape.proofs.Related.{TapeHolds, tape-fresh}
@@ -125,12 +126,7 @@ module _ (r : Rate) (u : RateUsable r) (s : Setup) (l : Lists) (store : List Flo
         tape = length-replicate (tapeSamples r) nought;
         plate = length-replicate (plateSamples r) nought;
         ceiling = filled-length samples 0 _ _ ∙ samples-length;
-        ducks =
-            let a = length-append (l .kicks) (drop (length (l .kicks)) (take tapeCounts counts)) in
-            let b = length-drop (length (l .kicks)) (take tapeCounts counts) in
-            let c = ducks-length in
-            let k = o .kicks in
-            omega arith;
+        ducks = laid-length (l .kicks) (take tapeCounts counts) (o .kicks) (rw ducks-length (omega arith)) ∙ ducks-length;
         gains = filled-length _ _ _ _ ∙ filled-length gains 0 _ _ ∙ gains-length;
       }
 
@@ -183,7 +179,7 @@ module _ (r : Rate) (u : RateUsable r) (s : Setup) (l : Lists) (store : List Flo
       listed l (listsIn r at-first)
       (sym (ap (take (length (l .positions))) (positions-of r strip values positions 0 tape plate ceiling long) ∙ take-append-seam (l .positions) _))
       (sym (ap (take (length (l .positions))) (values-of r strip values positions 0 tape plate ceiling long) ∙ take-at (l .values) _ (length (l .positions)) (sym (o .paired))))
-      (sym (ap (λ (w : TapeIn). kicksIn (length (l .kicks)) (w .counts)) t-of ∙ take-append-seam (l .kicks) _))
+      (sym (ap (λ (w : TapeIn). kicksIn (length (l .kicks)) (w .counts)) t-of ∙ laid-kicks (l .kicks) (take tapeCounts counts) (o .kicks) (rw ducks-length (omega arith))))
 
   pub open-stands : Stands r (fresh r s l) (openedState r s l store counts)
   unfolding fresh openedStrip
