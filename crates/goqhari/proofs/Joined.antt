@@ -2,7 +2,7 @@
 use mathlib.Core.Path.{_≡_, refl, sym, ap, _∙_, subst}
 use Prim.Native.Nat.{ℕ, _+_, _/_, _%_}
 use native.Mathlib.Omega.{arith}
-use mathlib.Core.Bool.{Bool, true, false, cond, _&&_, true≢false}
+use mathlib.Core.Bool.{Bool, true, false, cond, true≢false}
 use mathlib.Core.List.{List, [], _∷_, map}
 use lib.Dec.{leb, eqb}
 use lib.ListN.{length, drop}
@@ -31,7 +31,7 @@ use Rattle.strip.specs.Promise.{ask, Answer, stripOf, restStrip, runAnswer, mov
 use Rattle.strip.proofs.Joined.{answered}
 use Rattle.strip.proofs.Demand3.{joined-of}
 use Rattle.packing.specs.declared.Unpacked as unpack
-use Rattle.packing.specs.Packing.{numbersLong, wordsLong, packedNumbers, packedWords, unpacked}
+use Rattle.packing.specs.Packing.{packedNumbers, packedWords, roomy, unpacked}
 use Rattle.packing.specs.Inverse.{Single, ToneSingle, PadSingle, Singles}
 use Rattle.packing.proofs.Inverse.{inverse, flag-is}
 use Rattle.setup.specs.Setup.{numberAt, setupOf, toneOf, padOf, tapeSetupOf}
@@ -284,7 +284,7 @@ library-answers : (r : Rate) → RateUsable r → (singles doubles : List Float)
 unfolding libraryOpen
 library-answers r u singles doubles flags l ns ws store counts f z cs =
     let s = setupOf singles doubles flags in
-    let o = opens-by r s l ns ws store counts (leb numbersLong (length ns) && leb wordsLong (length ws)) (leb flags 15) z in
+    let o = opens-by r s l ns ws store counts (roomy ns ws) (leb flags 15) z in
     let h = setup-singles singles doubles flags f (o .strip) (o .setup) in
     ap (λ (m : Lent). answersOf r m cs) (o .memory)
     ∙ answers-are r _ (state (o .strip) (openCall r s l store counts .store) (openCall r s l store counts .counts)) (record { strip = written-back (o .strip) h ns ws; singles = h; store = refl; counts = refl }) cs

@@ -1,10 +1,10 @@
 -- The four calls on a packed strip: `openCall`, `runCall`, `latchCall` and `restCall` of crate strip through the packing, with each answer as a number
 -- (0, or the refusal's) and every lent element. Definitions only.
 use Prim.Native.Nat.{ℕ}
-use mathlib.Core.Bool.{Bool, true, false, cond, _&&_}
+use mathlib.Core.Bool.{Bool, true, false, cond}
 use mathlib.Core.List.{List}
 use lib.Dec.{leb, eqb}
-use lib.ListN.{length, set}
+use lib.ListN.{set}
 use lib.Ieee.{Float}
 use Rattle.rate.specs.declared.Rate.{Rate}
 use Rattle.tape.specs.Tape.{Lists}
@@ -21,7 +21,7 @@ use Rattle.strip.specs.Calls.{OpenDone, RunDone, state, openCall, runCall, latc
 use Rattle.opening.specs.Pieces.{over}
 use Rattle.packing.specs.declared.Unpacked as unpack
 use Rattle.packing.specs.declared.Unpacked.{Unpacked}
-use Rattle.packing.specs.Packing.{numbersLong, wordsLong, flagged, packedNumbers, packedWords, unpacked}
+use Rattle.packing.specs.Packing.{flagged, packedNumbers, packedWords, roomy, unpacked}
 use Rattle.setup.specs.Setup.{setupOf}
 
 -- an answer, with the packed strip as the call leaves it
@@ -63,10 +63,10 @@ opening b store counts = record { back = b; store = store; counts = counts }
 unfoldable pub openDone : OpenDone → List Float → List ℕ → Opening
 openDone o ns ws = opening (openedBack (o .answer) ns ws) (o .store) (o .counts)
 
--- 1 where the packed strip has no room, 2 where a flag is set that means nothing
+-- 1 where the packed strip has no room, whatever the stores; 2 where a flag is set that means nothing
 unfoldable pub libraryOpen : Rate → List Float → List Float → ℕ → Lists → List Float → List ℕ → List Float → List ℕ → Opening
 libraryOpen r singles doubles flags l ns ws store counts =
-    cond (leb numbersLong (length ns) && leb wordsLong (length ws))
+    cond (roomy ns ws)
     (cond (leb flags 15) (openDone (openCall r (setupOf singles doubles flags) l store counts) ns ws) (opening (back (declinedBy r 2 store counts) ns ws) store counts))
     (opening (back 1 ns ws) store counts)
 
@@ -85,7 +85,9 @@ running b store counts frames gains = record { back = b; store = store; counts =
 unfoldable pub runDone : RunDone → List Float → List ℕ → Running
 runDone o ns ws = running (outcomeBack (o .answer) ns ws) (o .store) (o .counts) (o .frames) (o .gains)
 
+-- in run, latch and rest: 1 where the packed strip has no room, whatever the stores; 4 where it is none
 unfoldable pub runFrom : Rate → Unpacked → List Float → List ℕ → List Float → Bool → List Float → List ℕ → List Float → List ℕ → Running
+runFrom r unpack.the-variants.Short ns ws xs d store counts frames gains = running (back 1 ns ws) store counts frames gains
 runFrom r unpack.the-variants.Not ns ws xs d store counts frames gains = running (back (declinedBy r 4 store counts) ns ws) store counts frames gains
 runFrom r (unpack.the-variants.Strip s) ns ws xs d store counts frames gains = runDone (runCall r (state s store counts) xs d frames gains) ns ws
 
@@ -99,6 +101,7 @@ libraryRun r ns ws xs drums store counts frames gains = runFrom r (unpacked ns w
 -- ---- latch
 
 unfoldable pub latchFrom : Rate → Unpacked → List Float → List ℕ → Controls → List Float → List ℕ → Back
+latchFrom r unpack.the-variants.Short ns ws c store counts = back 1 ns ws
 latchFrom r unpack.the-variants.Not ns ws c store counts = back (declinedBy r 4 store counts) ns ws
 latchFrom r (unpack.the-variants.Strip s) ns ws c store counts = outcomeBack (latchCall r (state s store counts) c) ns ws
 
@@ -122,6 +125,7 @@ restedBack (rested.the-variants.Rests b) rests = resting 0 (set rests 0 (flagged
 restedBack (rested.the-variants.Declined k s) rests = resting k rests
 
 unfoldable pub restFrom : Rate → Unpacked → List ℕ → List Float → List ℕ → Resting
+restFrom r unpack.the-variants.Short rests store counts = resting 1 rests
 restFrom r unpack.the-variants.Not rests store counts = resting (declinedBy r 4 store counts) rests
 restFrom r (unpack.the-variants.Strip s) rests store counts = restedBack (restCall r (state s store counts)) rests
 

@@ -89,10 +89,7 @@ pub extern "C" fn goqhari_open(
 ) -> u64
     ensures { λ r. ⌜ opening (back r (now (numbers .exit)) (now (words .exit))) (now (store .exit)) (now (counts .exit)) ≡ libraryOpen (rateOf 44100) (now (singles .entry)) (now (doubles .entry)) flags (listsOf (now (positions .entry)) (now (values .entry)) (now (kicks .entry))) (now (numbers .entry)) (now (words .entry)) (now (store .entry)) (now (counts .entry)) ⌝ }
 {
-    if numbers.len() < packing::NUMBERS {
-        return 1;
-    }
-    if words.len() < packing::WORDS {
+    if !packing::roomy(numbers, words) {
         return 1;
     }
     if 15 < flags {
@@ -128,6 +125,7 @@ pub extern "C" fn goqhari_run(
     ensures { λ r. ⌜ running (back r (now (numbers .exit)) (now (words .exit))) (now (store .exit)) (now (counts .exit)) (now (frames .exit)) (now (gains .exit)) ≡ libraryRun (rateOf 44100) (now (numbers .entry)) (now (words .entry)) (now (samples .entry)) drums (now (store .entry)) (now (counts .entry)) (now (frames .entry)) (now (gains .entry)) ⌝ }
 {
     match packing::unpack(numbers, words) {
+        Unpacked::Short => 1,
         Unpacked::Not => declined(4, store, counts),
         Unpacked::Strip(strip) => {
             let on = drums_on(drums);
@@ -159,6 +157,7 @@ pub extern "C" fn goqhari_latch(
         darkening,
     };
     match packing::unpack(numbers, words) {
+        Unpacked::Short => 1,
         Unpacked::Not => declined(4, store, counts),
         Unpacked::Strip(strip) => {
             let outcome = part::latch(strip, controls, store, counts);
@@ -180,6 +179,7 @@ pub extern "C" fn goqhari_rest(
     ensures { λ r. ⌜ resting r (now (rests .exit)) ≡ libraryRest (rateOf 44100) (now (numbers .entry)) (now (words .entry)) (now (rests .entry)) (now (store .entry)) (now (counts .entry)) ⌝ }
 {
     match packing::unpack(numbers, words) {
+        Unpacked::Short => 1,
         Unpacked::Not => declined(4, store, counts),
         Unpacked::Strip(strip) => {
             let answer = part::rest(strip, store, counts);

@@ -1,29 +1,21 @@
--- An f32 among the numbers, and a number that is left out. Assumes nothing.
-use mathlib.Core.Path.{_≡_, refl, sym, ap, _∙_, subst}
+-- An f32 among the numbers. Assumes nothing.
+use mathlib.Core.Path.{_≡_, refl, ap, _∙_, subst}
 use mathlib.Core.Bool.{true}
-use lib.Dec.{T, eqb→eq}
-use lib.Ieee.{Float, nan, inf, fin, binary32, binary64, fits, round, up, down, toBits, ofBits}
-use lib.Ieee.Fits.{round-fits, nan-fits, inf-fits, fits-widens}
+use lib.Dec.{T}
+use lib.Ieee.{Float, nan, inf, fin, binary32, binary64, fits, toBits, ofBits}
 use lib.Ieee.Bits.{ofBits-toBits, toBits-lt}
-use Prim.Native.Nat.{ℕ, _*_, _/_, _%_, _<_, _≤_}
+use Prim.Native.Nat.{ℕ, _/_, _%_, _<_, _≤_}
 use borrow.Author.Tests.{eq-eqb}
-use Rattle.casts.specs.Arithmetic.{nought}
 use Rattle.casts.specs.Cast.{narrowed}
 use Rattle.casts.proofs.Exact.{round-own}
 use Rattle.casts.proofs.Widening.{fits-short}
-use Rattle.packing.specs.Packing.{isShort, isNought}
+use Rattle.packing.specs.Packing.{isShort}
 
 pub narrowed-own : (x : Float) → T (fits binary32 x) → narrowed x ≡ x
 unfolding narrowed
 narrowed-own nan h = refl
 narrowed-own (inf s) h = refl
 narrowed-own (fin s m e) h = round-own binary32 s m e h
-
-narrowed-fits : (x : Float) → T (fits binary64 (narrowed x))
-unfolding narrowed
-narrowed-fits nan = nan-fits binary64
-narrowed-fits (inf s) = inf-fits binary64 s
-narrowed-fits (fin s m e) = fits-widens (round binary32 s (m * up e) (down e)) (round-fits binary32 s (m * up e) (down e))
 
 pub short-is : (x : Float) → T (fits binary32 x) → isShort x ≡ true
 unfolding isShort
@@ -34,16 +26,3 @@ pub short-digits : (x : Float) → T (fits binary64 x) → (b : ℕ) → b ≡ t
 short-digits x h b e z lo hi =
     let wide : b < 18446744073709551616 = rw e (toBits-lt binary64 x h) in
     short-is x (subst (λ (v : Float). T (fits binary32 v)) (ap (ofBits binary64) e ∙ ofBits-toBits binary64 x h) (fits-short b wide lo hi z))
-
-pub nought-is : isNought nought ≡ true
-unfolding isNought toBits ofBits
-nought-is = refl
-
-pub short-back : (x : Float) → T (fits binary64 x) → T (isShort x) → narrowed x ≡ x
-unfolding isShort
-short-back x h t =
-    sym (ofBits-toBits binary64 (narrowed x) (narrowed-fits x)) ∙ ap (ofBits binary64) (eqb→eq (toBits binary64 (narrowed x)) (toBits binary64 x) t) ∙ ofBits-toBits binary64 x h
-
-pub nought-back : (x : Float) → T (fits binary64 x) → T (isNought x) → x ≡ nought
-unfolding isNought
-nought-back x h t = sym (ofBits-toBits binary64 x h) ∙ ap (ofBits binary64) (eqb→eq (toBits binary64 x) 0 t)

@@ -1,4 +1,4 @@
--- What a strip that can be read back has; the inverse.
+-- The room of a strip that was read back; what was packed is read back.
 pub mod Read
 mod Floats
 pub mod Spread

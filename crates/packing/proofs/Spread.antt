@@ -1,10 +1,7 @@
--- The packed lists by their elements, and their lengths. Assumes nothing.
+-- The packed numbers by their elements, and the packed lists' lengths. Assumes nothing.
 use mathlib.Core.Path.{_≡_, refl, sym, ap}
-use Prim.Native.Nat.{ℕ, zero, suc, _+_, _≤_}
-use native.Mathlib.Omega.{arith}
 use mathlib.Core.List.{List, [], _∷_, _++_}
-use lib.ListN.{length, take, drop, getD}
-use lib.Seq.{drop-cons}
+use lib.ListN.{length, getD}
 use lib.Ieee.{Float, nan}
 use Rattle.automation.specs.declared.Tone.{Tone}
 use Rattle.automation.specs.declared.Tone.the-variants.{Fixed, Graded}
@@ -40,14 +37,3 @@ numbers-length s = ap length (sym (spread (s .setup .tape .tone) (s .setup .tape
 pub words-length : (s : Strip) → length (packedWords s) ≡ wordsLong
 unfolding packedWords
 words-length s = refl
-
--- the elements of a list from k on, n of them
-module _ {X : Type 0} (d : X) (l : List X) where
-  unfoldable pub elements : ℕ → ℕ → List X
-  elements k zero = []
-  elements k (suc n) = getD l k d ∷ elements (suc k) n
-
-  pub elements-are : (k n : ℕ) → k + n ≤ length l → elements k n ≡ take n (drop k l)
-  unfolding elements
-  elements-are k zero h = refl
-  elements-are k (suc n) h = rw (drop-cons l k d (omega arith)) (ap (λ (t : List X). getD l k d ∷ t) (elements-are (suc k) n (omega arith)))

@@ -1,20 +1,18 @@
--- Packing and unpacking are inverse, whatever stands behind the strip's numbers and words. Proved as `inverse` (proofs/Inverse.antt).
+-- What was packed is read back, whatever stands behind the strip's numbers and words. Proved as `inverse` (proofs/Inverse.antt).
 use mathlib.Core.Path.{_≡_}
 use Prim.Native.Nat.{ℕ}
 use mathlib.Core.List.{List, _++_}
 use lib.Dec.{T}
-use lib.ListN.{take}
-use lib.Ieee.{Float, binary32, binary64, fits}
+use lib.Ieee.{Float, binary32, fits}
 use Rattle.automation.specs.declared.Tone.{Tone}
 use Rattle.automation.specs.declared.Tone.the-variants.{Fixed, Graded}
 use Rattle.oscillators.specs.declared.Pad.{Pad}
 use Rattle.oscillators.specs.declared.Pad.the-variants.{Without, Swell}
 use Rattle.strip.specs.declared.Strip.{Strip}
 use Rattle.packing.specs.declared.Unpacked as unpack
-use Rattle.setup.specs.Setup.{numberAt}
-use Rattle.packing.specs.Packing.{numbersLong, wordsLong, packedNumbers, packedWords, unpacked}
+use Rattle.packing.specs.Packing.{packedNumbers, packedWords, unpacked}
 
--- what the code's types say: a field of type f32 holds an f32, an element of type f64 an f64
+-- what the code's types say: a field of type f32 holds an f32
 abbrev pub Single : Float → Type 0
 Single x = T (fits binary32 x)
 
@@ -34,5 +32,3 @@ pub record Singles (s : Strip) : Type 0 where
 
 pub record Inverse : Type 0 where
   pub back : (s : Strip) → Singles s → (ns : List Float) (ws : List ℕ) → unpacked (packedNumbers s ++ ns) (packedWords s ++ ws) ≡ unpack.the-variants.Strip s
-  pub same : (s : Strip) (ns : List Float) (ws : List ℕ) → ((k : ℕ) → T (fits binary64 (numberAt ns k)))
-      → unpacked ns ws ≡ unpack.the-variants.Strip s → (packedNumbers s ≡ take numbersLong ns) × (packedWords s ≡ take wordsLong ws)

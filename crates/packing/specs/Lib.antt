@@ -1,3 +1,3 @@
--- A strip as numbers and words, and that packing and unpacking are inverse.
+-- A strip as numbers and words, and that what was packed is read back.
 pub mod Packing
 pub mod Inverse

@@ -1,5 +1,5 @@
 -- A strip as 87 numbers (f64) and 19 words (u64), each field at its own place, and read back. An f32 stands among the numbers as the f64 of its value.
--- A tag or a bool is 0 or 1; a number that its tag leaves out is 0. Definitions only.
+-- A tag or a bool is 0 or 1; a number that its tag leaves out is packed as 0, and is not looked at when it is read back. Definitions only.
 use Prim.Native.Nat.{ℕ, _+_}
 use mathlib.Core.Bool.{Bool, true, false, cond, _&&_}
 use mathlib.Core.List.{List, [], _∷_, _++_}
@@ -102,6 +102,10 @@ packedWords s =
 
 -- ---- what can be read back
 
+-- room for a strip: like the stores its lists are lent, and refusal 1 is for what is lent too short
+unfoldable pub roomy : List Float → List ℕ → Bool
+roomy ns ws = leb numbersLong (length ns) && leb wordsLong (length ws)
+
 abbrev pub wordAt : List ℕ → ℕ → ℕ
 wordAt ws k = getD ws k 0
 
@@ -109,23 +113,16 @@ wordAt ws k = getD ws k 0
 unfoldable pub isShort : Float → Bool
 isShort x = eqb (toBits binary64 (narrowed x)) (toBits binary64 x)
 
--- 0, and not −0
-unfoldable pub isNought : Float → Bool
-isNought x = eqb (toBits binary64 x) 0
-
 -- two neighbours
 unfoldable pub bothShort : List Float → ℕ → Bool
 bothShort ns k = isShort (numberAt ns k) && isShort (numberAt ns (k + 1))
 
-unfoldable pub bothNought : List Float → ℕ → Bool
-bothNought ns k = isNought (numberAt ns k) && isNought (numberAt ns (k + 1))
-
--- a fixed tone leaves out two numbers; a graded one has three f32 after its first corner
+-- a fixed tone has no f32 after its corner, a graded one three after its first
 unfoldable pub toneFits : List Float → ℕ → Bool
-toneFits ns tag = cond (eqb tag 0) (bothNought ns 2) (eqb tag 1 && (isShort (numberAt ns 1) && bothShort ns 2))
+toneFits ns tag = cond (eqb tag 0) true (eqb tag 1 && (isShort (numberAt ns 1) && bothShort ns 2))
 
 unfoldable pub padFits : List Float → ℕ → Bool
-padFits ns tag = cond (eqb tag 0) (bothNought ns 4) (eqb tag 1 && bothShort ns 4)
+padFits ns tag = cond (eqb tag 0) true (eqb tag 1 && bothShort ns 4)
 
 -- the f32 that every strip has: a corner, daylight and rain
 unfoldable pub shortsFit : List Float → Bool
@@ -135,11 +132,9 @@ shortsFit ns = isShort (numberAt ns 0) && bothShort ns 8
 unfoldable pub wordsFit : List ℕ → Bool
 wordsFit ws = leb (wordAt ws 3) 1 && (leb (wordAt ws 4) 1 && (leb (wordAt ws 8) 1 && leb (wordAt ws 11) 1))
 
--- enough numbers and words, and each tag, bool and f32 one
+-- each tag, bool and f32 is one
 unfoldable pub unpackable : List Float → List ℕ → Bool
-unpackable ns ws =
-    leb numbersLong (length ns)
-    && (leb wordsLong (length ws) && (shortsFit ns && (toneFits ns (wordAt ws 1) && (padFits ns (wordAt ws 2) && wordsFit ws))))
+unpackable ns ws = shortsFit ns && (toneFits ns (wordAt ws 1) && (padFits ns (wordAt ws 2) && wordsFit ws))
 
 -- ---- reading back
 
@@ -229,4 +224,4 @@ stripFrom ns ws =
     }
 
 unfoldable pub unpacked : List Float → List ℕ → Unpacked
-unpacked ns ws = cond (unpackable ns ws) (unpack.the-variants.Strip (stripFrom ns ws)) unpack.the-variants.Not
+unpacked ns ws = cond (roomy ns ws) (cond (unpackable ns ws) (unpack.the-variants.Strip (stripFrom ns ws)) unpack.the-variants.Not) unpack.the-variants.Short

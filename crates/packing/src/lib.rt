@@ -1,9 +1,9 @@
 // A strip as numbers and words: what a caller of the C library lends a strip's memory as. specs/Packing.antt has each place;
-// packing and unpacking are inverse (proofs/Inverse.antt). Uses casts, the crates of the stages and strip for their types, and setup for one definition.
+// what was packed is read back (proofs/Inverse.antt). Uses casts, the crates of the stages and strip for their types, and setup for one definition.
 ghost use mathlib.Core.Path.{_≡_};
 ghost use Prim.Native.Nat.{_+_, _≤_};
 ghost use lib.ListN.{length};
-ghost use Rattle.packing.specs.Packing.{numbersLong, wordsLong, toneNumbers, toneTag, padNumbers, padTag, shapeTag, flagged, packedNumbers, packedWords, isShort, isNought, bothShort, bothNought, toneFits, padFits, shortsFit, wordsFit, unpackable, toneAt, padAt, shapeOf, flagOf, sectionFrom, lowpassFrom, onePoleFrom, rampFrom, setupFrom, tapeFrom, plateFrom, ceilingFrom, stripFrom, unpacked};
+ghost use Rattle.packing.specs.Packing.{numbersLong, wordsLong, toneNumbers, toneTag, padNumbers, padTag, shapeTag, flagged, packedNumbers, packedWords, roomy, isShort, bothShort, toneFits, padFits, shortsFit, wordsFit, unpackable, toneAt, padAt, shapeOf, flagOf, sectionFrom, lowpassFrom, onePoleFrom, rampFrom, setupFrom, tapeFrom, plateFrom, ceilingFrom, stripFrom, unpacked};
 use automation::Tone;
 use biquad::Lowpass;
 use biquad::Section;
@@ -22,14 +22,15 @@ use tape::Tape;
 use tape::TapeSetup;
 
 // How many numbers and how many words a strip is.
-pub const NUMBERS: usize = 87;
+const NUMBERS: usize = 87;
 
-pub const WORDS: usize = 19;
+const WORDS: usize = 19;
 
-// A strip, or no strip where the numbers and words are too few or a tag, a bool or an f32 is none.
+// A strip; no strip, where a tag, a bool or an f32 is none; or too few numbers or words.
 pub enum Unpacked {
     Strip(Strip),
     Not,
+    Short,
 }
 
 // ---- packing
@@ -251,6 +252,15 @@ pub fn words_of(s: Strip) -> [u64; 19]
 
 // ---- what can be read back
 
+pub fn roomy(numbers: &[f64], words: &[u64]) -> bool
+    ensures { λ r. ⌜ r ≡ roomy (now (numbers .entry)) (now (words .entry)) ⌝ }
+{
+    if numbers.len() < NUMBERS {
+        return false;
+    }
+    WORDS <= words.len()
+}
+
 // Nearly all have the field of a normal f32 and no digit below an f32's.
 fn is_short(x: f64) -> bool
     ensures { λ r. ⌜ r ≡ isShort x ⌝ }
@@ -268,12 +278,6 @@ fn is_short(x: f64) -> bool
     casts::bits_of_f64(y) == bits
 }
 
-fn is_nought(x: f64) -> bool
-    ensures { λ r. ⌜ r ≡ isNought x ⌝ }
-{
-    casts::bits_of_f64(x) == 0
-}
-
 fn both_short(numbers: &[f64], k: usize) -> bool
     requires { ⌜ k + 2 ≤ length (now numbers) ⌝ }
     ensures { λ r. ⌜ r ≡ bothShort (now (numbers .entry)) k ⌝ }
@@ -284,22 +288,12 @@ fn both_short(numbers: &[f64], k: usize) -> bool
     is_short(numbers[k + 1])
 }
 
-fn both_nought(numbers: &[f64], k: usize) -> bool
-    requires { ⌜ k + 2 ≤ length (now numbers) ⌝ }
-    ensures { λ r. ⌜ r ≡ bothNought (now (numbers .entry)) k ⌝ }
-{
-    if !is_nought(numbers[k]) {
-        return false;
-    }
-    is_nought(numbers[k + 1])
-}
-
 fn tone_fits(numbers: &[f64], tag: u64) -> bool
     requires { ⌜ numbersLong ≤ length (now numbers) ⌝ }
     ensures { λ r. ⌜ r ≡ toneFits (now (numbers .entry)) tag ⌝ }
 {
     if tag == 0 {
-        return both_nought(numbers, 2);
+        return true;
     }
     if tag != 1 {
         return false;
@@ -315,7 +309,7 @@ fn pad_fits(numbers: &[f64], tag: u64) -> bool
     ensures { λ r. ⌜ r ≡ padFits (now (numbers .entry)) tag ⌝ }
 {
     if tag == 0 {
-        return both_nought(numbers, 4);
+        return true;
     }
     if tag == 1 {
         return both_short(numbers, 4);
@@ -350,14 +344,9 @@ fn words_fit(words: &[u64]) -> bool
 }
 
 fn unpackable(numbers: &[f64], words: &[u64]) -> bool
+    requires { ⌜ (numbersLong ≤ length (now numbers)) × (wordsLong ≤ length (now words)) ⌝ }
     ensures { λ r. ⌜ r ≡ unpackable (now (numbers .entry)) (now (words .entry)) ⌝ }
 {
-    if numbers.len() < NUMBERS {
-        return false;
-    }
-    if words.len() < WORDS {
-        return false;
-    }
     if !shorts_fit(numbers) {
         return false;
     }
@@ -580,6 +569,9 @@ fn strip_from(numbers: &[f64], words: &[u64]) -> Strip
 pub fn unpack(numbers: &[f64], words: &[u64]) -> Unpacked
     ensures { λ r. ⌜ r ≡ unpacked (now (numbers .entry)) (now (words .entry)) ⌝ }
 {
+    if !roomy(numbers, words) {
+        return Unpacked::Short;
+    }
     if !unpackable(numbers, words) {
         return Unpacked::Not;
     }

@@ -4,12 +4,9 @@ use borrow.Author.Needs.{needs}
 use Rattle.packing.proofs.pad_fits.Statement.{statement}
 use Rattle.packing.proofs.pad_fits.Tie as tie
 
-both-nought-requires : tie.Need-both-nought-requires
-both-nought-requires c κs = search needs
-
 returns : tie.Need-returns
 unfolding padFits
-returns c = rw (eq-eqb _ _ (c .before .if1 .taken)) (c .both-nought .ensures)
+returns c = rw (eq-eqb _ _ (c .if1 .taken))
 
 both-short-requires : tie.Need-both-short-requires
 both-short-requires c κs = search needs
@@ -24,4 +21,4 @@ returns-3 c = rw (ne-eqb _ _ (c .before .if1 .left), ne-eqb _ _ (c .if2 .left))
 
 pub pad-fits-spec : {M : Type 1} → statement M
 pad-fits-spec =
-    tie.close (tie.spec both-nought-requires returns both-short-requires returns-2 returns-3)
+    tie.close (tie.spec returns both-short-requires returns-2 returns-3)

@@ -5,12 +5,9 @@ use borrow.Author.Needs.{needs}
 use Rattle.packing.proofs.tone_fits.Statement.{statement}
 use Rattle.packing.proofs.tone_fits.Tie as tie
 
-both-nought-requires : tie.Need-both-nought-requires
-both-nought-requires c κs = search needs
-
 returns : tie.Need-returns
 unfolding toneFits
-returns c = rw (eq-eqb _ _ (c .before .if1 .taken)) (c .both-nought .ensures)
+returns c = rw (eq-eqb _ _ (c .if1 .taken))
 
 returns-2 : tie.Need-returns-2
 unfolding toneFits
@@ -37,7 +34,6 @@ pub tone-fits-spec : {M : Type 1} → statement M
 tone-fits-spec =
     tie.close
     (tie.spec
-    both-nought-requires
     returns
     returns-2
     shared-slice-read-is-short
