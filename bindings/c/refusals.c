@@ -1,5 +1,6 @@
 /* Bad input from C: whatever is wrong, a call answers the number of the first refusal that fits, and leaves every lent
- * byte as it was. What is lent is allocated to the byte, so that valgrind or a sanitizer sees any reach beyond it. */
+ * byte as it was. What is lent is allocated to the byte, so that valgrind or a sanitizer sees any reach beyond it; and good
+ * input in memory that nothing has written, so that valgrind sees any use of what was never written. */
 #include "goqhari.h"
 
 #include <math.h>
@@ -7,7 +8,8 @@
 #include <stdlib.h>
 #include <string.h>
 
-enum { SAMPLES = 96, POSITION = 0 };
+/* words of a strip: its position, and the tags and flags, each 0 or 1 */
+enum { SAMPLES = 96, POSITION = 0, GRADED = 1, PAD = 2, DARKENED = 3, DUCKED = 4, DAYLIGHT_SHAPE = 8, RAIN_SHAPE = 11 };
 static const uint64_t END = GOQHARI_MAX_POSITION;
 
 /* ---- what is lent, and how it was */
@@ -132,13 +134,17 @@ static void short_lengths(void) {
     struct opening bad = good;
     bad.doubles[3] = 2;
     for (int i = 0; i < 4; i++) {
-        all_decline(what[i], i < 2 ? 1 : 4, of[i]);
+        all_decline(what[i], 1, of[i]);
         declined(what[i], 1, open_in(good, of[i]));
         declined("short before a bad number", 1, open_in(bad, of[i]));
     }
     struct lengths none = {0, 0, 0, 0};
     all_decline("nothing lent", 1, none);
     declined("nothing lent", 1, open_in(good, none));
+    words[GRADED] = 2;
+    keep();
+    for (int i = 0; i < 4; i++) all_decline("short before a malformed strip", 1, of[i]);
+    fresh();
 }
 
 static void bad_numbers(void) {
@@ -251,6 +257,40 @@ static void bad_latches(void) {
 
 /* ---- strips that open never made */
 
+/* What the packing itself declines: a tag or a flag above 1, and a number that is no f32 where one belongs. */
+static void bad_packing(void) {
+    static const int tags[] = {GRADED, PAD, DARKENED, DUCKED, DAYLIGHT_SHAPE, RAIN_SHAPE}, f32s[] = {0, 1, 2, 3, 4, 5, 8, 9};
+    for (int i = 0; i < 6; i++) {
+        words[tags[i]] = i % 2 ? UINT64_MAX : 2;
+        keep();
+        all_decline("a tag or a flag above 1", 4, whole);
+        fresh();
+    }
+    for (int i = 0; i < 8; i++) {
+        numbers[f32s[i]] = nextafter(numbers[f32s[i]], 1e9);
+        keep();
+        all_decline("no f32 where one belongs", 4, whole);
+        fresh();
+    }
+}
+
+/* A number that its tag leaves out may be anything. */
+static void left_out(void) {
+    static const double any[] = {0.1, -1, 1e300, 0};
+    struct opening plain = good;
+    plain.flags &= ~(uint64_t)(GOQHARI_GRADED | GOQHARI_PAD);
+    accepted("open of a fixed tone and no pad", open_in(plain, whole));
+    for (int i = 0; i < 4; i++) {
+        numbers[2 + i] = NAN;
+        accepted("rest with a number left out that is NaN", rest_in(whole));
+        numbers[2 + i] = any[i];
+        accepted("run with any number left out", run());
+        numbers[2 + i] = -any[i];
+        accepted("latch with any number left out", latch_in(0.5f, 10, 0.5f, 10, whole));
+    }
+    fresh();
+}
+
 static uint64_t drawn(void) {
     static uint64_t state = 1;
     state += 0x9e3779b97f4a7c15;
@@ -310,6 +350,66 @@ static void garbage(int rounds) {
     }
 }
 
+/* ---- memory that nothing has written */
+
+static void *unwritten(size_t size) {
+    void *bytes = malloc(size ? size : 1);
+    if (!bytes) exit(2);
+    return bytes;
+}
+
+/* A strip of which only what the flags name is set, in lists of just their length, played in runs of so many samples. */
+static void play_unwritten(uint64_t flags, const uint64_t *kicked, size_t kicks_len, size_t points, size_t len) {
+    float *singles = unwritten(8 * sizeof *singles);
+    double *doubles = unwritten(4 * sizeof *doubles), *values = unwritten(points * sizeof *values);
+    uint64_t *positions = unwritten(points * sizeof *positions), *kicks = unwritten(kicks_len * sizeof *kicks);
+    double *numbers = unwritten(GOQHARI_NUMBERS * sizeof *numbers), *store = unwritten(GOQHARI_STORE_NUMBERS * sizeof *store);
+    uint64_t *words = unwritten(GOQHARI_WORDS * sizeof *words), *counts = unwritten(GOQHARI_STORE_COUNTS * sizeof *counts);
+    singles[0] = good.singles[0];
+    if (flags & GOQHARI_GRADED)
+        for (int i = 1; i < 4; i++) singles[i] = good.singles[i];
+    else
+        doubles[0] = good.doubles[0];
+    if (flags & GOQHARI_PAD)
+        for (int i = 4; i < 6; i++) singles[i] = good.singles[i];
+    for (int i = 6; i < 8; i++) singles[i] = good.singles[i];
+    for (int i = 1; i < 4; i++) doubles[i] = good.doubles[i];
+    for (size_t i = 0; i < points; i++) positions[i] = 20 * i, values[i] = i % 2 ? 0.25 : 0.75;
+    for (size_t i = 0; i < kicks_len; i++) kicks[i] = kicked[i];
+    accepted("open in memory that nothing has written",
+             goqhari_open(singles, doubles, flags, positions, points, values, points, kicks, kicks_len, numbers, GOQHARI_NUMBERS,
+                          words, GOQHARI_WORDS, store, GOQHARI_STORE_NUMBERS, counts, GOQHARI_STORE_COUNTS));
+    free(singles), free(doubles), free(values), free(positions), free(kicks);
+    for (int at = 0; at < SAMPLES; at += (int)len) {
+        double *in = unwritten(len * sizeof *in);
+        float *out = unwritten(2 * len * sizeof *out);
+        uint64_t *gain = unwritten(len * sizeof *gain), *at_rest = unwritten(sizeof *at_rest);
+        for (size_t i = 0; i < len; i++) in[i] = samples[((size_t)at + i) % SAMPLES];
+        accepted("run in memory that nothing has written",
+                 goqhari_run(numbers, GOQHARI_NUMBERS, words, GOQHARI_WORDS, in, len, at % 5 != 4, out, 2 * len, gain, len, store,
+                             GOQHARI_STORE_NUMBERS, counts, GOQHARI_STORE_COUNTS));
+        accepted("latch in memory that nothing has written",
+                 goqhari_latch(numbers, GOQHARI_NUMBERS, words, GOQHARI_WORDS, at % 2 ? 0.5f : 0.25f, 10, at % 3 ? 0.5f : 1, 0, store,
+                               GOQHARI_STORE_NUMBERS, counts, GOQHARI_STORE_COUNTS));
+        accepted("rest in memory that nothing has written",
+                 goqhari_rest(numbers, GOQHARI_NUMBERS, words, GOQHARI_WORDS, at_rest, store, GOQHARI_STORE_NUMBERS, counts,
+                              GOQHARI_STORE_COUNTS));
+        int odd = at_rest[0] > 1;
+        for (size_t i = 0; i < len; i++) odd |= gain[i] > GOQHARI_GAIN_UNIT || out[2 * i] != out[2 * i] || out[2 * i + 1] != out[2 * i + 1];
+        if (odd) wrong++, puts("refusals: an output that no strip has");
+        free(in), free(out), free(gain), free(at_rest);
+    }
+    free(numbers), free(words), free(store), free(counts);
+}
+
+static void never_written(void) {
+    static const uint64_t kicks[] = {0, 0, 1, 1, 3, 40, 40, 41};
+    static const size_t from[] = {0, 2, 2, 0, 4, 5}, count[] = {0, 1, 2, 3, 1, 3}, lens[] = {1, 2, 3, SAMPLES};
+    for (uint64_t flags = 0; flags < 16; flags++)
+        for (int k = 0; k < 6; k++)
+            for (int i = 0; i < 4; i++) play_unwritten(flags, kicks + from[k], count[k], (size_t)k, lens[i]);
+}
+
 int main(int count, char **args) {
     numbers = lend(0, sizeof *numbers * GOQHARI_NUMBERS);
     words = lend(1, sizeof *words * GOQHARI_WORDS);
@@ -325,6 +425,10 @@ int main(int count, char **args) {
     bad_latches();
     fresh();
     bad_runs();
+    fresh();
+    bad_packing();
+    left_out();
+    never_written();
     garbage(count > 1 ? atoi(args[1]) : 40);
     for (int i = 0; i < 7; i++) free(lent[i].bytes), free(lent[i].before);
     printf("refusals: %d calls, %d wrong\n", tried, wrong);
