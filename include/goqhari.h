@@ -10,8 +10,8 @@
  *     words     GOQHARI_WORDS uint64_t
  *     store     GOQHARI_STORE_NUMBERS doubles   its lines, needs, frames on their way and sweep values
  *     counts    GOQHARI_STORE_COUNTS uint64_t   its kicks, steps and sweep positions
- * Each may be longer: what lies behind is never touched. goqhari_open fills them; each later call is to be lent them as the call
- * before left them. A strip may be moved or saved by copying the four lists.
+ * Each may be longer: what lies behind is never touched. goqhari_open lays the strip there; each later call is to be lent them as the
+ * call before left them. A strip may be moved or saved by copying the four lists.
  *
  * Every call answers GOQHARI_OK or the number of a refusal. A refusal alters nothing that was lent. Grounds are looked at in the
  * order of their numbers, and the first that fits is the answer. Whatever the numbers in the lists are, a call answers.
