@@ -1,4 +1,4 @@
-# test: the layout, the part beside the Rust, what a maker links, then the verdict, whose last line is 'N passed, 0 failed'.
+# test: the layout, the part beside the Rust, the kept vectors made again, what a maker links, then the verdict, whose last line is 'N passed, 0 failed'.
 # lib: build/libgoqhari.a, for C and C++ by include/goqhari.h and for Rust by bindings/rust, proved before it is built.
 # demo: a phrase through it, to hear and to see. sheet: the data sheet's pictures and figures, measured anew.
 # replay: the replays' tallies, of the part's answers beside kept lists of the oracle's. bench: the part's time over the Rust's.
@@ -15,6 +15,8 @@ endif
 test:
 	rt fmt --check
 	harness/compare 1 20
+	harness/vectors check
+	harness/build bench || [ $$? -eq 3 ]
 	bindings/test
 	rt ci
 

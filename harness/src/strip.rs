@@ -12,12 +12,12 @@ use crate::setup::Setup;
 pub const END: u64 = 1 << 32;
 
 pub struct Strip {
-    automation: Automation,
-    tape: Tape,
+    pub automation: Automation,
+    pub tape: Tape,
     send: f64,
     plate: Plate,
     ceiling: Ceiling,
-    n: u64,
+    pub n: u64,
 }
 
 /// NaN is in no range.
@@ -76,8 +76,13 @@ impl Strip {
         }
     }
 
-    /// What a run of exact outputs declines by, or 0 with its frames and gain counts.
+    /// What a run of exact outputs declines by, or its frames and gain counts.
     pub fn run(&mut self, samples: &[f64], drums: bool) -> Result<(Vec<f32>, Vec<u64>), u64> {
+        self.dry(samples, drums).map(|y| self.wet(&y))
+    }
+
+    /// What a run declines by, or the lane's samples.
+    pub fn dry(&mut self, samples: &[f64], drums: bool) -> Result<Vec<f64>, u64> {
         if self.n + samples.len() as u64 > END {
             return Err(6);
         }
@@ -86,13 +91,18 @@ impl Strip {
         }
         let mut y = samples.to_vec();
         self.tape.process(&mut y, self.n as usize, &self.automation, drums, &mut Vec::new());
+        self.n += samples.len() as u64;
+        Ok(y)
+    }
+
+    /// The frames and gain counts of the lane's samples.
+    pub fn wet(&mut self, y: &[f64]) -> (Vec<f32>, Vec<u64>) {
         let sent: Vec<f64> = y.iter().map(|y| y * self.send).collect();
         let mut sides = [Vec::new(), Vec::new()];
         self.plate.process(&sent, &mut sides);
         let frames: Vec<[f64; 2]> =
             y.iter().enumerate().map(|(i, y)| [y + sides[0][i], y + sides[1][i]]).collect();
-        self.n += samples.len() as u64;
-        Ok(limited(&mut self.ceiling, &frames))
+        limited(&mut self.ceiling, &frames)
     }
 
     /// What a latch declines by, or 0.

@@ -1,48 +1,35 @@
--- The one-sample machine, played: antt computes strip's definition `expected` for each list of calls of specs/Lists.antt, and it is what the Rust answered, to the last bit. Assumes nothing.
-use mathlib.Core.Path.{_≡_, refl}
-use lib.Ieee.{add, sub, mul, div, neg, le, lt, eq, isNan, ofInt, ofBits, toBits, toSigned, toUnsigned, round}
-use Rattle.casts.specs.Cast.{narrowed, floored, twoTo}
-use Rattle.casts.specs.Step.{stepOf}
-use Rattle.stage.specs.Stage.{identity}
-use Rattle.elementary.specs.Elementary.{down, SIN, COS, EXP, LN, POW, TANH, SINH}
-use Rattle.stream.specs.Stream.{flushed, gainOfDb}
-use Rattle.onepole.specs.OnePole.{poleOf, onePoleAt, onePoleStep, tiltStep, liftOf, onePoleAtRest}
-use Rattle.biquad.specs.Cookbook.{normalized, angleOf, lpf, hpf, bpf, lowpassAt, highpassAt, bandpassAt, butterQ, lowpassRetuned}
-use Rattle.biquad.specs.Section.{sectionAt, sectionStep, retuned, lowpassStep, sectionAtRest, lowpassAtRest}
-use Rattle.delay.specs.Delay.{powerFrom, ringOf, tapOf, allZero}
-use Rattle.ramp.specs.Ramp.{held, shaped, rampAt, toward}
-use Rattle.sidechain.specs.Sidechain.{sidechainGain}
-use Rattle.duck.specs.Duck.{marksAt, timesGains, duckStep}
-use Rattle.rate.specs.Ceiling.{limitOf, ceilingRate}
-use Rattle.rate.specs.Lengths.{rounded, ceilOf, samplesAt}
-use Rattle.rate.specs.Plate.{scaled, predelayOf, excursionOf, reachOf, inputRate, leftTaps, rightTaps, halfRate, leftRate, rightRate, tripOf, decayOf, diffusionOf, dampingOf, highpassOf, plateRate}
+-- The one-sample machine, played: what antt computes of its definition is what the Rust answered, to the last bit. Assumes nothing.
+use mathlib.Core.Path.{_≡_, refl, _∙_}
 use Rattle.rate.specs.Rate.{rateOf}
-use Rattle.rate.specs.Tape.{warpOf, wowOf, flutterOf, duckRate, tapeRate}
-use Rattle.automation.specs.Automation.{blockOf, daylightOf, reached, segment, sweepAt, swept, cornerBetween, driveBetween, toneAt, tuningAt}
-use Rattle.oscillators.specs.Oscillators.{phaseOf, swellOf, warpDelay}
-use Rattle.tape.specs.Tape.{saturated, liftAt, equalizerStep, duckedStep, tapeStep, freshTone, freshEqualizer, freshTapeMachine, equalizerAtRest, tapeAtRest}
-use Rattle.allpass.specs.Allpass.{storedOf, latticeFrom, latticeStep, stretchedStep, delayStep}
-use Rattle.plate.specs.Machine.{inputStep, halfStep, leaving, tapsOf, fedOf, turnOf, stretchOf, tankStep, returnedOf, plateStep, freshHalf, freshPlate, inputAtRest, halfAtRest, atRest}
-use Rattle.master.specs.Ceiling.{sizeOf, largerOf, peakOf, needFor, needOf, least, leastOf, heldOf, releasedOf, lastOf, total, countOf, lateOf, gainOf, clamped, played, deliver, taken, delivered, ceilingStep}
-use Rattle.master.specs.Kept.{framesIn, framesOut}
-use Rattle.strip.specs.Machine.{fresh, mixedStep, stepped, latched, resting, fed, fedAll, delivers, heardFrom}
-use Rattle.strip.specs.Promise.{refusal, eventsOf, feeds, accepted, says, expected}
-use Rattle.ranges.specs.Ranges.{inRange, allInRange}
-use Rattle.strip.specs.Refusals.{okUnit, okOutputs, okEnd, okSamples, okControls, runRefusal, latchRefusal}
-use Rattle.played.specs.Lists.{Played, everything, plain, cd}
+use Rattle.strip.specs.Machine.{fresh}
+use Rattle.strip.specs.Promise.{expected}
+use Rattle.played.specs.Played.{Played, Sounded, dryFrom}
+use Rattle.played.specs.Lists.{everything, plain, cd}
+use Rattle.played.proofs.Apart.{rolled, freshBehind, behindCall, answered-by, dry-by}
+use Rattle.played.proofs.Computed.{computed}
+use Rattle.played.proofs.Stretches.{everything-dry, everything-lane, cd-lane}
 
 -- what the machine answers to a list
 abbrev Agrees : Played → Type 0
 Agrees p = expected (rateOf (p .rate)) (fresh (rateOf (p .rate)) (p .setup) (p .lists)) (p .calls) ≡ p .answers
 
-pub everything-agrees : Agrees everything
-unfolding narrowed floored twoTo stepOf identity down SIN COS EXP LN POW TANH SINH flushed gainOfDb poleOf onePoleAt onePoleStep tiltStep liftOf onePoleAtRest normalized angleOf lpf hpf bpf lowpassAt highpassAt bandpassAt butterQ lowpassRetuned sectionAt sectionStep retuned lowpassStep sectionAtRest lowpassAtRest powerFrom ringOf tapOf allZero held shaped rampAt toward sidechainGain marksAt timesGains duckStep limitOf ceilingRate rounded ceilOf samplesAt scaled predelayOf excursionOf reachOf inputRate leftTaps rightTaps halfRate leftRate rightRate tripOf decayOf diffusionOf dampingOf highpassOf plateRate rateOf warpOf wowOf flutterOf duckRate tapeRate blockOf daylightOf reached segment sweepAt swept cornerBetween driveBetween toneAt tuningAt phaseOf swellOf warpDelay saturated liftAt equalizerStep duckedStep tapeStep freshTone freshEqualizer freshTapeMachine equalizerAtRest tapeAtRest storedOf latticeFrom latticeStep stretchedStep delayStep inputStep halfStep leaving tapsOf fedOf turnOf stretchOf tankStep returnedOf plateStep freshHalf freshPlate inputAtRest halfAtRest atRest sizeOf largerOf peakOf needFor needOf least leastOf heldOf releasedOf lastOf total countOf lateOf gainOf clamped played deliver taken delivered ceilingStep framesIn framesOut fresh mixedStep stepped latched resting fed fedAll delivers heardFrom refusal eventsOf feeds accepted says expected inRange allInRange okUnit okOutputs okEnd okSamples okControls runRefusal latchRefusal add sub mul div neg le lt eq isNan ofInt ofBits toBits toSigned toUnsigned round
-everything-agrees = refl
+-- what its lane gives by itself
+abbrev Sounds : Sounded → Type 0
+Sounds p = dryFrom (rateOf (p .rate)) (fresh (rateOf (p .rate)) (p .setup) (p .lists)) (p .events) ≡ p .samples
 
+-- at 240 Hz, 64 samples: behind the lane's four stretches, plate and ceiling at once. Left and right are apart from the 9th frame on
+everything-behind : rolled (behindCall (rateOf 240) (everything .setup .send)) (freshBehind (rateOf 240)) everything-dry .out ≡ everything .answers
+unfolding computed
+everything-behind = refl
+
+pub everything-agrees : Agrees everything
+everything-agrees = answered-by (rateOf 240) (everything .setup) (everything .lists) everything-lane ∙ everything-behind
+
+-- at 240 Hz, 12 samples: the machine whole, at once
 pub plain-agrees : Agrees plain
-unfolding narrowed floored twoTo stepOf identity down SIN COS EXP LN POW TANH SINH flushed gainOfDb poleOf onePoleAt onePoleStep tiltStep liftOf onePoleAtRest normalized angleOf lpf hpf bpf lowpassAt highpassAt bandpassAt butterQ lowpassRetuned sectionAt sectionStep retuned lowpassStep sectionAtRest lowpassAtRest powerFrom ringOf tapOf allZero held shaped rampAt toward sidechainGain marksAt timesGains duckStep limitOf ceilingRate rounded ceilOf samplesAt scaled predelayOf excursionOf reachOf inputRate leftTaps rightTaps halfRate leftRate rightRate tripOf decayOf diffusionOf dampingOf highpassOf plateRate rateOf warpOf wowOf flutterOf duckRate tapeRate blockOf daylightOf reached segment sweepAt swept cornerBetween driveBetween toneAt tuningAt phaseOf swellOf warpDelay saturated liftAt equalizerStep duckedStep tapeStep freshTone freshEqualizer freshTapeMachine equalizerAtRest tapeAtRest storedOf latticeFrom latticeStep stretchedStep delayStep inputStep halfStep leaving tapsOf fedOf turnOf stretchOf tankStep returnedOf plateStep freshHalf freshPlate inputAtRest halfAtRest atRest sizeOf largerOf peakOf needFor needOf least leastOf heldOf releasedOf lastOf total countOf lateOf gainOf clamped played deliver taken delivered ceilingStep framesIn framesOut fresh mixedStep stepped latched resting fed fedAll delivers heardFrom refusal eventsOf feeds accepted says expected inRange allInRange okUnit okOutputs okEnd okSamples okControls runRefusal latchRefusal add sub mul div neg le lt eq isNan ofInt ofBits toBits toSigned toUnsigned round
+unfolding computed
 plain-agrees = refl
 
-pub cd-agrees : Agrees cd
-unfolding narrowed floored twoTo stepOf identity down SIN COS EXP LN POW TANH SINH flushed gainOfDb poleOf onePoleAt onePoleStep tiltStep liftOf onePoleAtRest normalized angleOf lpf hpf bpf lowpassAt highpassAt bandpassAt butterQ lowpassRetuned sectionAt sectionStep retuned lowpassStep sectionAtRest lowpassAtRest powerFrom ringOf tapOf allZero held shaped rampAt toward sidechainGain marksAt timesGains duckStep limitOf ceilingRate rounded ceilOf samplesAt scaled predelayOf excursionOf reachOf inputRate leftTaps rightTaps halfRate leftRate rightRate tripOf decayOf diffusionOf dampingOf highpassOf plateRate rateOf warpOf wowOf flutterOf duckRate tapeRate blockOf daylightOf reached segment sweepAt swept cornerBetween driveBetween toneAt tuningAt phaseOf swellOf warpDelay saturated liftAt equalizerStep duckedStep tapeStep freshTone freshEqualizer freshTapeMachine equalizerAtRest tapeAtRest storedOf latticeFrom latticeStep stretchedStep delayStep inputStep halfStep leaving tapsOf fedOf turnOf stretchOf tankStep returnedOf plateStep freshHalf freshPlate inputAtRest halfAtRest atRest sizeOf largerOf peakOf needFor needOf least leastOf heldOf releasedOf lastOf total countOf lateOf gainOf clamped played deliver taken delivered ceilingStep framesIn framesOut fresh mixedStep stepped latched resting fed fedAll delivers heardFrom refusal eventsOf feeds accepted says expected inRange allInRange okUnit okOutputs okEnd okSamples okControls runRefusal latchRefusal add sub mul div neg le lt eq isNan ofInt ofBits toBits toSigned toUnsigned round
-cd-agrees = refl
+-- the lane at 44,100 Hz, 40 samples in four stretches: sound comes out of the warp from the 26th on
+pub cd-agrees : Sounds cd
+cd-agrees = dry-by (rateOf 44100) (cd .setup) (cd .lists) cd-lane

@@ -1,2 +1,3 @@
 -- Lists of calls with the Rust's answers.
+pub mod Played
 pub mod Lists

@@ -1,5 +1,7 @@
-// The one-sample machine, played: strip's definition is computed for a few lists of calls and is what the Rust answered
-// (proofs/Agrees.antt). No code. harness/vectors makes the lists. Uses strip and what it stands on, for their definitions.
+// The one-sample machine, played: strip's definition is computed for lists of calls, and tape's step at the part's own rate, and each is
+// what the Rust answered (proofs/Agrees.antt). antt's step limit ends a declaration after some 16 samples of a lane, so a long list is
+// computed in stretches (proofs/Stretches.antt). No code. harness/vectors makes the lists and the stretches.
+// Uses strip and what it stands on, for their definitions.
 pub struct Played {
     pub calls: u64,
 }
