@@ -155,7 +155,7 @@ pub fn queue(words: &[u64]) -> impl Iterator<Item = usize> {
     (0..many).map(move |i| NEEDS.at + ((head + i) % 883) as usize)
 }
 
-/// How many of the kept lists' elements are in use; a list that is too long is shown as one of 77s, of which the rest is not asked.
+/// What is in use of a kept list. Where more is said to be than it has places, a list too long by one that is fine otherwise.
 fn used<T: Copy>(list: &[T], many: u64, filler: T) -> Vec<T> {
     if many <= list.len() as u64 { list[..many as usize].to_vec() } else { vec![filler; list.len() + 1] }
 }
