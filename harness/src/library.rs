@@ -93,9 +93,19 @@ impl Memory {
             && self.words[WORDS..].iter().chain(&self.counts[COUNTS..]).all(|&n| n == WORD)
     }
 
+    /// Becomes the other, in the memory that it has.
+    pub fn become_as(&mut self, other: &Memory) {
+        self.numbers.clone_from(&other.numbers);
+        self.words.clone_from(&other.words);
+        self.store.clone_from(&other.store);
+        self.counts.clone_from(&other.counts);
+    }
+
     /// Whether every element is bit for bit the other's, from the given places on.
     pub fn same_from(&self, other: &Memory, [numbers, words, store, counts]: [usize; 4]) -> bool {
-        let bits = |x: &[f64], y: &[f64]| x.iter().zip(y).all(|(a, b)| a.to_bits() == b.to_bits());
+        let bits = |x: &[f64], y: &[f64]| {
+            x.len() == y.len() && x.iter().zip(y).all(|(a, b)| a.to_bits() == b.to_bits())
+        };
         bits(&self.numbers[numbers..], &other.numbers[numbers..])
             && self.words[words..] == other.words[words..]
             && bits(&self.store[store..], &other.store[store..])

@@ -35,14 +35,18 @@ fn main() {
     let chosen: Vec<_> =
         compare::ALL.iter().filter(|c| names.is_empty() || names.iter().any(|name| name == c.0)).collect();
     let start = Instant::now();
-    let mut differences = 0;
+    let mut failed = false;
     for (i, &&(name, least, run)) in chosen.iter().enumerate() {
         let end = start + Duration::from_secs(seconds) * (i as u32 + 1) / chosen.len() as u32;
         let report = run(&mut Rng::new(seed ^ named(name)), Budget::new(end, least));
         report.print(name);
-        differences += report.differences;
+        if report.cases < least {
+            println!("{name} has compared too little: {} cases, and at least {least} are asked", report.cases);
+            failed = true;
+        }
+        failed |= report.differences > 0;
     }
-    std::process::exit(i32::from(differences > 0));
+    std::process::exit(i32::from(failed));
 }
 
 fn number(word: Option<&String>) -> Option<u64> {

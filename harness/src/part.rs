@@ -23,6 +23,7 @@ unsafe extern "C" {
     pub safe fn goqhari_test_fixed(which: u64, five: &mut [f64; 5]);
     pub safe fn goqhari_test_onepole(onepole: &mut [f64; 2], x: f64) -> f64;
     pub safe fn goqhari_test_tilt(onepole: &mut [f64; 2], rain: f64, x: f64) -> f64;
+    pub safe fn goqhari_test_tilt_lent(onepole: &mut [f64; 2], rain: f64, x: f64) -> f64;
     pub safe fn goqhari_test_pole(damping: bool) -> f64;
     fn goqhari_test_push(ring: *mut f64, len: u64, written: u64, x: f64);
     fn goqhari_test_at(ring: *const f64, len: u64, written: u64, delay: u64) -> f64;
@@ -137,7 +138,7 @@ pub enum Call {
 }
 
 impl Call {
-    fn words(&self) -> [u64; 4] {
+    pub fn words(&self) -> [u64; 4] {
         match *self {
             Call::Run(len, drums) => [0, len, u64::from(drums), 0],
             Call::Latch([daylight, rain], [grading, darkening]) => {

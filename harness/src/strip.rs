@@ -6,10 +6,9 @@ use oracle::stream::master::Ceiling;
 use oracle::stream::plate::Plate;
 
 use crate::compare::ceiling::limited;
-use crate::setup::Setup;
-
-/// Positions are at most this.
-pub const END: u64 = 1 << 32;
+use crate::compare::refusals::{self, END};
+use crate::library::{COUNTS, NUMBERS, STORE, WORDS};
+use crate::setup::{Numbers, Setup};
 
 pub struct Strip {
     pub automation: Automation,
@@ -25,41 +24,10 @@ fn within<T: PartialOrd>(x: T, a: T, b: T) -> bool {
     a <= x && x <= b
 }
 
-/// 2: a setup number is NaN or outside its range.
-fn numbers_fit(s: &Setup) -> bool {
-    let tone = if s.graded {
-        s.corners.iter().all(|&c| within(c, 20.0, 20_000.0)) && s.drives.iter().all(|&d| within(f64::from(d), 0.1, 8.0))
-    } else {
-        within(s.corners[0], 20.0, 20_000.0) && within(s.drive, 0.1, 8.0)
-    };
-    tone && s.pad.is_none_or(|[rate, depth]| within(rate, 0.0, 20.0) && within(depth, 0.0, 1.0))
-        && s.gains.iter().all(|&g| within(g, 0.0, 16.0))
-        && within(s.daylight, 0.0, 1.0)
-        && within(s.rain, 0.0, 1.0)
-        && within(s.send, 0.0, 1.0)
-}
-
-/// 3: a list is too long, falls, has positions and values unequal in number, a value outside 0 to 1 or NaN, or a
-/// position above 2^32.
-fn lists_fit(s: &Setup) -> bool {
-    s.points.len() <= 256
-        && s.kicks.len() <= 1024
-        && s.points.len() == s.values.len()
-        && s.points.is_sorted()
-        && s.kicks.is_sorted()
-        && s.values.iter().all(|&v| within(v, 0.0, 1.0))
-        && s.points.iter().chain(&s.kicks).all(|&at| at <= END)
-}
-
 /// What open declines by, or 0.
 pub fn why_not(setup: &Setup) -> u64 {
-    if !numbers_fit(setup) {
-        2
-    } else if !lists_fit(setup) {
-        3
-    } else {
-        0
-    }
+    let Numbers { f32s, f64s, flags } = setup.numbers();
+    refusals::open([NUMBERS, WORDS, STORE, COUNTS], &f32s, &f64s, flags, setup).answer()
 }
 
 impl Strip {

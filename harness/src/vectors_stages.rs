@@ -1,6 +1,6 @@
-//! Prints the list that crates/replay_stages runs: answers of single functions on draws of a fixed seed, then a lane's setup
-//! and a signal through the tape, the plate and the ceiling, all by the oracle. A line is a name and 12 numbers, patterns in
-//! hexadecimal; a single answer is the last of them.
+//! Prints the list that crates/replay_stages runs: answers of single functions on draws of a fixed seed, then signals through
+//! the tape, the duck, the plate and the ceiling, all by the oracle. A line is a name and 12 numbers, patterns in hexadecimal;
+//! a single answer is the last of them, and a signal fills lines.
 #![allow(dead_code)]
 
 mod compare;
@@ -17,7 +17,7 @@ use oracle::Controls;
 use oracle::stream::biquad::{butter_lowpass, section};
 use oracle::stream::delay::DelayLine;
 use oracle::stream::gain_of_db;
-use oracle::stream::lanes::{Automation, Grade, Sweep, swept};
+use oracle::stream::lanes::{Automation, Duck, Grade, Sweep, swept};
 use oracle::stream::master::Ceiling;
 use oracle::stream::onepole::{OnePole, Tilt};
 use oracle::stream::plate::Plate;
@@ -26,6 +26,7 @@ use oracle::stream::ramp::{Ramp, Shape};
 use oracle::synth::{SIDECHAIN_ATTACK_S, SIDECHAIN_DB, SIDECHAIN_RELEASE_S, samples_at, sidechain_gain};
 
 use compare::ceiling::limited;
+use part::Call;
 use rng::Rng;
 use setup::{RATE, Setup, control};
 
@@ -48,6 +49,17 @@ fn row(name: &str, numbers: &[u64]) {
     all[..numbers.len()].copy_from_slice(numbers);
     let words: Vec<String> = all.iter().map(|n| format!("{n:016x}")).collect();
     println!("{name:8}{}", words.join(" "));
+}
+
+/// A list, 12 numbers to a line.
+fn rows(name: &str, numbers: &[u64]) {
+    for twelve in numbers.chunks(12) {
+        row(name, twelve);
+    }
+}
+
+fn signal(name: &str, samples: &[f64]) {
+    rows(name, &samples.iter().map(|&x| bits(x)).collect::<Vec<_>>());
 }
 
 /// An f64's pattern, one for all NaNs.
@@ -164,9 +176,13 @@ fn tones(rng: &mut Rng) {
     }
 }
 
-/// A lane that has everything, over three calls: a run, a latch and a run.
-fn tape(rng: &mut Rng) {
-    let setup = Setup {
+fn noise(rng: &mut Rng, most: f64) -> Vec<f64> {
+    (0..SAMPLES).map(|_| rng.between(-most, most)).collect()
+}
+
+/// A lane that has everything.
+fn everything() -> Setup {
+    Setup {
         graded: true,
         corners: [900.0, 9000.0],
         drives: [1.2, 3.0],
@@ -181,27 +197,87 @@ fn tape(rng: &mut Rng) {
         points: vec![40, 100, 100, 250],
         values: vec![1.0, 0.5, 0.25, 0.75],
         kicks: vec![3, 70, 70, 90, 120, 130, 150, 200, 200, 299, 1 << 20, 1 << 32],
-    };
+    }
+}
+
+/// A lane by at most twelve calls over a signal, which is played over and over where it is shorter than they are: the signal, the
+/// setup, the calls and what comes out.
+fn lane(name: &str, setup: &Setup, x: &[f64], calls: &[Call]) {
+    signal(name, x);
     let numbers = setup.numbers();
     row("f32s", &numbers.f32s.map(short));
     let mut second: Vec<u64> = numbers.f64s.map(bits).to_vec();
     second.push(numbers.flags);
     row("f64s", &second);
     row("points", &setup.points);
-    row("values", &setup.values.iter().map(|&v| bits(v)).collect::<Vec<_>>());
+    signal("values", &setup.values);
     row("kicks", &setup.kicks);
-    let controls = [0.9f32, 0.1];
-    row("calls", &[0, 120, 1, 0, 1, short(controls[0]) << 32 | short(controls[1]), 77, 50, 0, 180, 0, 0]);
-    let x: Vec<f64> = (0..SAMPLES).map(|_| rng.between(-1.2, 1.2)).collect();
-    let mut y = x.clone();
+    let mut words: Vec<u64> = calls.iter().flat_map(Call::words).collect();
+    words.resize(48, 0);
+    rows("calls", &words);
     let mut automation = setup.automation();
-    let mut lane = setup.tape(&automation, RATE);
-    lane.process(&mut y[..120], 0, &automation, true, &mut Vec::new());
-    automation.latch(120, Controls { daylight: controls[0], rain: controls[1] }, 77, 50);
-    lane.process(&mut y[120..], 120, &automation, false, &mut Vec::new());
-    for (x, y) in x.iter().zip(y) {
-        row("tape", &[bits(*x), 0, bits(y)]);
+    let mut tape = setup.tape(&automation, RATE);
+    let mut out = Vec::new();
+    for call in calls {
+        let at = out.len();
+        match *call {
+            Call::Run(len, drums) => {
+                out.extend(x.iter().cycle().skip(at % x.len()).take(len as usize));
+                tape.process(&mut out[at..], at, &automation, drums, &mut Vec::new());
+            }
+            Call::Latch([daylight, rain], [grading, darkening]) => {
+                automation.latch(at, Controls { daylight, rain }, grading as usize, darkening as usize);
+            }
+        }
     }
+    signal(name, &out);
+}
+
+fn tape(rng: &mut Rng) {
+    let calls = [
+        Call::Run(1, true),
+        Call::Run(31, true),
+        Call::Latch([0.5, 0.2], [40, 3]),
+        Call::Run(32, false),
+        Call::Run(56, true),
+        Call::Latch([0.9, 0.1], [77, 50]),
+        Call::Run(0, true),
+        Call::Latch([0.9, 0.4], [5, 0]),
+        Call::Run(100, false),
+        Call::Run(63, true),
+        Call::Run(17, false),
+    ];
+    lane("tape", &everything(), &noise(rng, 1.2), &calls);
+}
+
+/// Runs with drums and without by turns, so long that four kicks which sounded have released, and others were never heard.
+const RUNS: [u64; 11] = [1, 440, 2000, 31, 3000, 1000, 1, 2, 2300, 1, 1304];
+const KICKS: [u64; 12] = [0, 1, 441, 441, 1000, 2440, 2450, 6472, 6473, 8775, 8776, 1 << 32];
+
+fn runs() -> Vec<(u64, bool)> {
+    RUNS.into_iter().enumerate().map(|(i, len)| (len, i % 2 == 0)).collect()
+}
+
+/// The lane under kicks.
+fn kicks(rng: &mut Rng) {
+    let setup = Setup { points: vec![500, 4000, 4000, 9000], kicks: KICKS.to_vec(), ..everything() };
+    let calls: Vec<Call> = runs().into_iter().map(|(len, drums)| Call::Run(len, drums)).collect();
+    lane("kicks", &setup, &noise(rng, 1.2), &calls);
+}
+
+/// The duck by itself: the kicks, the positions at which the drums turn, and every sample's gain.
+fn duck() {
+    row("kicks", &KICKS);
+    let (mut turns, mut gains) = (vec![1 << 32; 12], Vec::new());
+    let mut duck = Duck::new(&KICKS.map(|kick| kick as usize), SIDECHAIN_DB, SIDECHAIN_ATTACK_S, SIDECHAIN_RELEASE_S, RATE);
+    for (i, (len, drums)) in runs().into_iter().enumerate() {
+        let at = gains.len();
+        duck.reach(at + len as usize, drums);
+        gains.extend((at..at + len as usize).map(|n| duck.gain(n)));
+        turns[i] = gains.len() as u64;
+    }
+    row("turns", &turns);
+    signal("duck", &gains);
 }
 
 /// The lengths of the calls that a stage is run in.
@@ -210,26 +286,48 @@ const CALLS: [u64; 12] = [1, 0, 31, 32, 33, 64, 0, 100, 700, 39, 2000, 0];
 /// The signal ten times over, since the plate answers late: the last time's answers.
 fn plate(rng: &mut Rng) {
     row("calls", &CALLS);
-    let x: Vec<f64> = (0..SAMPLES).map(|_| rng.between(-1.0, 1.0)).collect();
+    let x = noise(rng, 1.0);
     let mut sides = [Vec::new(), Vec::new()];
     Plate::new(RATE).process(&x.repeat(10), &mut sides);
-    for (i, x) in x.iter().enumerate() {
-        let [left, right] = [0, 1].map(|side| sides[side][9 * SAMPLES + i]);
-        row("plate", &[bits(*x), 0, bits(left), bits(right)]);
+    signal("plate", &x);
+    for side in sides {
+        signal("plate", &side[9 * SAMPLES..]);
     }
+}
+
+/// Frames of a ceiling, and how many of them decay.
+const FRAMES: usize = 2004;
+const DECAY: usize = 950;
+
+/// A level that decays slower than the gain is released: each need is queued, and held until it leaves the window. Then noise
+/// below the limit, a peak among it that undercuts some of those that are queued, and at the end what silences for good.
+fn frames(rng: &mut Rng) -> Vec<[f64; 2]> {
+    let mut decay = 2.0;
+    let mut frames: Vec<[f64; 2]> = (0..FRAMES)
+        .map(|i| {
+            decay *= 0.9999;
+            let level = if i < DECAY { decay } else { rng.between(0.0, 0.89) };
+            [rng.pick(&[level, -level]), level * rng.between(-1.0, 1.0)]
+        })
+        .collect();
+    frames[5] = [f64::NAN, 1.5];
+    frames[6] = [f64::NAN, f64::NAN];
+    frames[8] = [f64::from(0.891_250_9f32), -0.0];
+    frames[1100] = [-0.0, -1.85];
+    frames[1101] = [1.85, 0.5];
+    frames[FRAMES - 4] = [-0.0, f64::INFINITY];
+    frames
 }
 
 fn ceiling(rng: &mut Rng) {
     row("calls", &CALLS);
-    let mut frames: Vec<[f64; 2]> = (0..SAMPLES).map(|_| [rng.between(-2.0, 2.0), rng.between(-1.0, 1.0)]).collect();
-    frames[5] = [f64::NAN, 3.0];
-    frames[6] = [f64::NAN, f64::NAN];
-    frames[7] = [-0.0, f64::INFINITY];
-    frames[8] = [f64::from(0.891_250_9f32), -0.0];
-    let (out, gains) = limited(&mut Ceiling::new(RATE), &frames);
-    for (i, frame) in frames.iter().enumerate() {
-        row("ceiling", &[bits(frame[0]), bits(frame[1]), short(out[2 * i]), short(out[2 * i + 1]), gains[i]]);
+    let frames = frames(rng);
+    for side in [0, 1] {
+        signal("ceiling", &frames.iter().map(|frame| frame[side]).collect::<Vec<_>>());
     }
+    let (out, gains) = limited(&mut Ceiling::new(RATE), &frames);
+    rows("ceiling", &out.into_iter().map(short).collect::<Vec<_>>());
+    rows("ceiling", &gains);
 }
 
 fn main() {
@@ -240,6 +338,8 @@ fn main() {
     tones(&mut rng);
     row("end", &[]);
     tape(&mut rng);
+    kicks(&mut rng);
+    duck();
     plate(&mut rng);
     ceiling(&mut rng);
 }

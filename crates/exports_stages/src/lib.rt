@@ -1,5 +1,5 @@
 // C functions for the Rust harness beside the part: a fresh tape lane, plate or ceiling over a whole signal, in calls of the
-// lengths that are given. Only the harness and the replay use them. Rust promises nothing of what it passes: lengths and
+// lengths that are given, and the lane's tilt. Only the harness and the replay use them. Rust promises nothing of what it passes: lengths and
 // bounds are tested first, and nothing is done where they do not hold.
 ghost use Prim.Native.Nat.{_+_, _<_, _≤_, _*_, _/_};
 ghost use mathlib.Core.Path.{_≡_};
@@ -12,6 +12,7 @@ ghost use Rattle.master.specs.WellFormed.{wellFormed};
 use automation::Tone;
 use duck::Duck;
 use master::Ceiling;
+use onepole::OnePole;
 use plate::Plate;
 use ramp::Ramp;
 use ramp::Shape;
@@ -339,6 +340,19 @@ pub extern "C" fn goqhari_test_tape(
     let lane = fresh_lane(f32s, duck.count);
     let after = all_called(setup, points, values, lane, ring, counts, samples, calls);
     tape::at_rest(after.tape, ring)
+}
+
+// The lane's tilt at a rain, of a one-pole that it lends to its step: pole and y.
+#[no_mangle]
+pub extern "C" fn goqhari_test_tilt_lent(s: &mut [f64; 2], rain: f64, x: f64) -> f64 {
+    let lp = OnePole {
+        pole: s[0],
+        y: s[1],
+    };
+    let next = tape::tilt(lp, onepole::lift(rain), x);
+    s[0] = next.lp.pole;
+    s[1] = next.lp.y;
+    next.out
 }
 
 // ---- the plate

@@ -1,12 +1,10 @@
 // Replays a kept list of the oracle's answers, on standard input, and prints how many of the part's are alike:
 // a line for each thing (name, answers, answers alike) and a total, fields parted by tabs. The list has answers of
-// single functions, then a lane's setup and a signal through the tape, the plate and the ceiling.
+// single functions, then signals through the tape, the plate, the ceiling and the duck.
 // It may use the exported functions, casts, vectors and the kit's io and libc.
-ghost use Prim.Native.Nat.{_<_};
+ghost use Prim.Native.Nat.{_≤_};
+ghost use lib.ListN.{length};
 use vectors::Tally;
-
-// Samples of a signal.
-const SAMPLES: usize = 300;
 
 // ---- a line
 
@@ -64,10 +62,10 @@ fn onepole(n: &[u64; 12]) -> u64 {
     bits(exports::leaves::goqhari_test_onepole(&mut s, float(n[2])))
 }
 
-// The same with the rain between.
+// The same with the rain between, by the tilt that is lent its one-pole.
 fn tilt(n: &[u64; 12]) -> u64 {
     let mut s = [float(n[0]), float(n[1])];
-    bits(exports::leaves::goqhari_test_tilt(&mut s, float(n[2]), float(n[3])))
+    bits(exports_stages::goqhari_test_tilt_lent(&mut s, float(n[2]), float(n[3])))
 }
 
 // A ring of four, the count of its samples, the greatest delay and the delay.
@@ -152,55 +150,50 @@ fn tallied(names: &[u8]) -> Tally {
     t
 }
 
-// ---- the signals
+// ---- lists of numbers
 
-// A signal's lines: what goes in, and the patterns that come out.
-struct Played {
-    first: [f64; 300],
-    second: [f64; 300],
-    a: [u64; 300],
-    b: [u64; 300],
-    c: [u64; 300],
-}
-
-fn silent() -> Played {
-    Played {
-        first: [0.0; 300],
-        second: [0.0; 300],
-        a: [0; 300],
-        b: [0; 300],
-        c: [0; 300],
-    }
-}
-
-fn placed(s: Played, i: usize, n: &[u64; 12]) -> Played
-    requires { ⌜ i < 300 ⌝ }
-{
-    let mut s = s;
-    s.first[i] = float(n[0]);
-    s.second[i] = float(n[1]);
-    s.a[i] = n[2];
-    s.b[i] = n[3];
-    s.c[i] = n[4];
-    s
-}
-
-fn signal() -> Played {
-    let mut s = silent();
+// Fills a list by the lines' numbers, 12 of each.
+fn fill(out: &mut [u64]) {
+    let mut n = [0u64; 12];
     let mut i: usize = 0;
-    while i < SAMPLES {
-        let n = next();
-        s = placed(s, i, &n);
+    while i < out.len() {
+        if i % 12 == 0 {
+            n = next();
+        }
+        out[i] = n[i % 12];
         i += 1;
     }
-    s
 }
 
-// How many samples have the patterns that the list has.
-fn alike(out: &[f64; 300], kept: &[u64; 300]) -> u64 {
+// The same by the floats that they are patterns of.
+fn fill_floats(out: &mut [f64]) {
+    let mut n = [0u64; 12];
+    let mut i: usize = 0;
+    while i < out.len() {
+        if i % 12 == 0 {
+            n = next();
+        }
+        out[i] = float(n[i % 12]);
+        i += 1;
+    }
+}
+
+// A signal over and over.
+fn repeat(x: &[f64; 300], out: &mut [f64]) {
+    let mut i: usize = 0;
+    while i < out.len() {
+        out[i] = x[i % 300];
+        i += 1;
+    }
+}
+
+// How many of the samples have the patterns that are kept.
+fn alike(out: &[f64], kept: &[u64]) -> u64
+    requires { ⌜ length (now out) ≤ length (now kept) ⌝ }
+{
     let mut count: u64 = 0;
     let mut i: usize = 0;
-    while i < SAMPLES {
+    while i < out.len() {
         if bits(out[i]) == kept[i] {
             count = std::num::wrapping_add_u64(count, 1);
         }
@@ -209,14 +202,14 @@ fn alike(out: &[f64; 300], kept: &[u64; 300]) -> u64 {
     count
 }
 
-// Of frames, the left sides from 0 on or the right ones from 1 on.
-fn sides_alike(out: &[f32; 600], from: usize, kept: &[u64; 300]) -> u64
-    requires { ⌜ from < 2 ⌝ }
+// Of delivered sides.
+fn sides_alike(out: &[f32], kept: &[u64]) -> u64
+    requires { ⌜ length (now out) ≤ length (now kept) ⌝ }
 {
     let mut count: u64 = 0;
     let mut i: usize = 0;
-    while i < SAMPLES {
-        if vectors::short_bits(out[2 * i + from]) == kept[i] {
+    while i < out.len() {
+        if vectors::short_bits(out[i]) == kept[i] {
             count = std::num::wrapping_add_u64(count, 1);
         }
         i += 1;
@@ -224,10 +217,12 @@ fn sides_alike(out: &[f32; 600], from: usize, kept: &[u64; 300]) -> u64
     count
 }
 
-fn gains_alike(out: &[u64; 300], kept: &[u64; 300]) -> u64 {
+fn gains_alike(out: &[u64], kept: &[u64]) -> u64
+    requires { ⌜ length (now out) ≤ length (now kept) ⌝ }
+{
     let mut count: u64 = 0;
     let mut i: usize = 0;
-    while i < SAMPLES {
+    while i < out.len() {
         if out[i] == kept[i] {
             count = std::num::wrapping_add_u64(count, 1);
         }
@@ -257,17 +252,19 @@ fn shorts(n: &[u64; 12]) -> [f32; 8] {
     ]
 }
 
-// A lane's setup: two lines of numbers with the flags, three of points, values and kicks, and one of three calls.
-fn tape() -> u64 {
+// ---- the signals
+
+// Reads a lane's setup, two lines of numbers with the flags, three of points, values and kicks, and four of twelve calls, and
+// runs the lane over the samples.
+fn through_tape(samples: &mut [f64]) {
     let f32s = shorts(&next());
     let second = next();
     let f64s = floats(&second);
     let points = four(&next());
     let values = floats(&next());
     let kicks = next();
-    let calls = next();
-    let s = signal();
-    let mut samples = s.first;
+    let mut calls = [0u64; 48];
+    fill(&mut calls);
     let mut ring = [0.0; 64];
     let mut counts = [0u64; 2048];
     exports_stages::goqhari_test_tape(
@@ -279,58 +276,99 @@ fn tape() -> u64 {
         &kicks,
         &mut ring,
         &mut counts,
-        &mut samples,
+        samples,
         &calls,
     );
-    let kept = s.a;
+}
+
+fn tape() -> u64 {
+    let mut samples = [0.0; 300];
+    let mut kept = [0u64; 300];
+    fill_floats(&mut samples);
+    through_tape(&mut samples);
+    fill(&mut kept);
     alike(&samples, &kept)
 }
 
-// A signal ten times over: the plate answers late.
-fn repeated(x: &[f64; 300]) -> [f64; 3000] {
-    let mut out = [0.0; 3000];
-    let mut i: usize = 0;
-    while i < 3000 {
-        out[i] = x[i % SAMPLES];
-        i += 1;
-    }
-    out
+// Past a kick's attack and release: a signal over and over, every answer kept.
+fn kicks() -> u64 {
+    let mut x = [0.0; 300];
+    let mut samples = [0.0; 10080];
+    let mut kept = [0u64; 10080];
+    fill_floats(&mut x);
+    repeat(&x, &mut samples);
+    through_tape(&mut samples);
+    fill(&mut kept);
+    alike(&samples, &kept)
 }
 
-fn last(x: &[f64; 3000]) -> [f64; 300] {
-    let mut out = [0.0; 300];
+// Whether the drums are on at n, which they are at first and turn at each of the places.
+fn drums_at(turns: &[u64; 12], n: u64) -> bool {
+    let mut on = true;
     let mut i: usize = 0;
-    while i < SAMPLES {
-        out[i] = x[2700 + i];
+    while i < 12 {
+        if turns[i] <= n {
+            on = !on;
+        }
         i += 1;
     }
-    out
+    on
 }
 
+// A fresh duck's gain for each sample, by itself.
+fn gains(kicks: &[u64; 12], turns: &[u64; 12], out: &mut [f64]) {
+    let mut counts = [0u64; 2048];
+    let count = exports::leaves::goqhari_test_duck_new(kicks, &mut counts);
+    let mut cursors = [count, 0, 0];
+    let mut i: usize = 0;
+    while i < out.len() {
+        let n = i as u64;
+        let drums = drums_at(turns, n);
+        out[i] = exports::leaves::goqhari_test_duck(&mut counts, &mut cursors, n, drums);
+        i += 1;
+    }
+}
+
+fn duck() -> u64 {
+    let kicks = next();
+    let turns = next();
+    let mut out = [0.0; 10080];
+    let mut kept = [0u64; 10080];
+    gains(&kicks, &turns, &mut out);
+    fill(&mut kept);
+    alike(&out, &kept)
+}
+
+// The plate answers late: a signal over and over, the last answers kept.
 fn plate() -> u64 {
     let calls = next();
-    let s = signal();
-    let x = s.first;
-    let mut left = repeated(&x);
+    let mut x = [0.0; 300];
+    let mut left = [0.0; 3000];
     let mut right = [0.0; 3000];
     let mut part = [0.0; 47104];
+    let mut kept = [0u64; 300];
+    fill_floats(&mut x);
+    repeat(&x, &mut left);
     exports_stages::goqhari_test_plate(&mut part, &mut left, &mut right, &calls);
-    let a = s.a;
-    let b = s.b;
-    let l = last(&left);
-    let r = last(&right);
-    std::num::wrapping_add_u64(alike(&l, &a), alike(&r, &b))
+    fill(&mut kept);
+    let of_left = alike(&left[2700..3000], &kept);
+    fill(&mut kept);
+    std::num::wrapping_add_u64(of_left, alike(&right[2700..3000], &kept))
 }
 
+// Past the window of the needs.
 fn ceiling() -> u64 {
     let calls = next();
-    let s = signal();
-    let left = s.first;
-    let right = s.second;
-    let mut frames = [0.0f32; 600];
-    let mut gains = [0u64; 300];
+    let mut left = [0.0; 2004];
+    let mut right = [0.0; 2004];
+    let mut frames = [0.0f32; 4008];
+    let mut gains = [0u64; 2004];
     let mut samples = [0.0; 1323];
     let mut counts = [0u64; 1104];
+    let mut kept_frames = [0u64; 4008];
+    let mut kept_gains = [0u64; 2004];
+    fill_floats(&mut left);
+    fill_floats(&mut right);
     exports_stages::goqhari_test_ceiling(
         &mut samples,
         &mut counts,
@@ -340,14 +378,12 @@ fn ceiling() -> u64 {
         &mut gains,
         &calls,
     );
-    let a = s.a;
-    let b = s.b;
-    let c = s.c;
-    let sides = std::num::wrapping_add_u64(
-        sides_alike(&frames, 0, &a),
-        sides_alike(&frames, 1, &b),
-    );
-    std::num::wrapping_add_u64(sides, gains_alike(&gains, &c))
+    fill(&mut kept_frames);
+    fill(&mut kept_gains);
+    std::num::wrapping_add_u64(
+        sides_alike(&frames, &kept_frames),
+        gains_alike(&gains, &kept_gains),
+    )
 }
 
 fn main() {
@@ -357,8 +393,12 @@ fn main() {
     vectors::print_tally(names, t);
     let of_tape = tape();
     vectors::print_line(b"tape", 300, of_tape);
+    let of_kicks = kicks();
+    vectors::print_line(b"kicks", 10080, of_kicks);
+    let of_duck = duck();
+    vectors::print_line(b"duck", 10080, of_duck);
     let of_plate = plate();
     vectors::print_line(b"plate", 600, of_plate);
     let of_ceiling = ceiling();
-    vectors::print_line(b"ceiling", 900, of_ceiling);
+    vectors::print_line(b"ceiling", 6012, of_ceiling);
 }

@@ -107,7 +107,7 @@ fn front_step(
 }
 
 // The tilt: it lends the one-pole to its step.
-fn tilt(mut lp: OnePole, lift: f64, x: f64) -> Tilted
+pub fn tilt(mut lp: OnePole, lift: f64, x: f64) -> Tilted
     ensures { λ r. ⌜ r ≡ tiltStep lp lift x ⌝ }
 {
     let out = lp.tilt_in_place(lift, x);

@@ -1,8 +1,12 @@
-//! Memory that no list of calls leads to. First, one thing of a good strip is set to a value, and each call's number is
-//! held to refusal 4. Then anything: values of every kind put anywhere in the packed strip and the stores, and lists of any
-//! length. Each answer must be 0 to 8, a refusal must leave every lent byte as it was, and nothing past the asked lengths
-//! may ever be touched. What an abused strip that is accepted plays is left open, but it must end.
+//! Memory that no list of calls leads to. Each call's answer is held to refusals.rs, which has 01's grounds in its own words; a
+//! refusal must leave every lent byte as it was, and nothing past the asked lengths may ever be touched. First one thing at a time:
+//! every packed field, every kept list and every argument at its edges. Then anything: strips that calls led to and strips
+//! made of draws, with values of every kind put anywhere and lists of any length. A run in which some ground never stood alone
+//! has failed too: the part could lack that ground unseen. What an abused strip that is accepted plays is left open, but it must end.
 
+use std::collections::BTreeMap;
+
+use super::refusals::{self, END, Grounds, Part, UNIT};
 use super::strip::spoil;
 use super::tape::length;
 use crate::library::{COUNTS, Memory, NUMBERS, STORE, WORDS};
@@ -11,113 +15,379 @@ use crate::rng::Rng;
 use crate::setup::{Numbers, Setup, control};
 use crate::signal;
 
-// ---- one thing set
+const ASKED: [usize; 4] = [NUMBERS, WORDS, STORE, COUNTS];
 
-/// Where a thing stands.
-enum Place {
-    Number(usize),
-    Word(usize),
-    /// In the stores; the newest queued need, by the queue's head and length.
-    Count(usize),
-    NewestNeed,
+// ---- a call, and what is asked of it
+
+/// A call, and what it is lent beside a strip's memory.
+#[derive(Debug)]
+enum Call {
+    Open { f32s: [f32; 8], f64s: [f64; 4], flags: u64, lists: Setup },
+    Run { samples: Vec<f64>, drums: u64, outputs: [usize; 2] },
+    Latch { to: [f32; 2], over: [u64; 2] },
+    Rest,
 }
 
-/// A place, the values that 4 declines there, and those that it passes. Floats go by their patterns.
-struct Field {
-    place: Place,
-    declined: Vec<u64>,
-    passed: Vec<u64>,
-}
+/// Outputs have elements before and after what is lent.
+const GUARD: usize = 3;
+const FRAME: f32 = -7.0;
+const GAIN: u64 = 77;
 
-const OVER: u64 = (1 << 32) + 1;
-const UNIT: u64 = 1 << 40;
-
-/// Places of the packed strip (crates/packing/specs/Packing.antt) and of the stores (docs/DECISIONS.md, 'Layout').
-const QUEUE_HEAD: usize = 16;
-const QUEUE_LEN: usize = 17;
-const UNTIL: usize = 18;
-const DRIVE: usize = 85;
-const TOP: usize = 86;
-const NEEDS_AT: usize = 64 + 47_104;
-const QUEUE: usize = 883;
-const STEPS_AT: usize = 2_048 + QUEUE;
-const STEPS: u64 = 221;
-
-fn bits(of: &[f64]) -> Vec<u64> {
-    of.iter().map(|x| x.to_bits()).collect()
-}
-
-fn field(rng: &mut Rng, setup: &Setup) -> Field {
-    let word = |at: usize, declined: &[u64], passed: &[u64]| Field {
-        place: Place::Word(at),
-        declined: declined.to_vec(),
-        passed: passed.to_vec(),
-    };
-    let unit = |place: Place| Field {
-        place,
-        declined: bits(&[f64::NAN, -1e-300, 1.0000000000000002, f64::INFINITY]),
-        passed: bits(&[0.0, -0.0, 1.0, 0.5]),
-    };
-    let kicks = setup.kicks.len() as u64;
-    match rng.below(14) {
-        0 => word(0, &[OVER, u64::MAX], &[0, 1, 31, (1 << 32) - 1, 1 << 32]),
-        1 => word(rng.pick(&[6, 7, 9, 10]), &[OVER, u64::MAX], &[0, 1 << 32]),
-        2 => word(rng.pick(&[13, 14]), &[kicks + 1, u64::MAX], &[0, kicks]),
-        3 => word(QUEUE_LEN, &[884, u64::MAX], &[0]),
-        4 => word(15, &[0, STEPS * UNIT + 1, u64::MAX], &[]),
-        5 => word(rng.pick(&[1, 2, 3, 4, 8, 11]), &[2, 256, u64::MAX], &[]),
-        6 => word(QUEUE_HEAD, &[883, u64::MAX], &[]),
-        7 => unit(Place::NewestNeed),
-        8 => unit(Place::Number(84)),
-        9 => Field {
-            place: Place::Count(STEPS_AT + rng.below(STEPS) as usize),
-            declined: vec![UNIT + 1, u64::MAX, 0],
-            passed: Vec::new(),
-        },
-        // an f32's place that holds none, and a setup number that 2 declines
-        10 => Field {
-            place: Place::Number(rng.pick(&[8, 9])),
-            declined: bits(&[0.1, 1e-300, f64::NAN, 1.5, -1e-45]),
-            passed: bits(&[0.0, -0.0, 1.0, 0.5, f64::from(1e-45f32)]),
-        },
-        // the tuning, of which 4 asks nothing
-        11 => word(UNTIL, &[], &[0, OVER, u64::MAX]),
-        12 => Field {
-            place: Place::Number(rng.pick(&[DRIVE, TOP])),
-            declined: Vec::new(),
-            passed: bits(&[f64::NAN, -0.0, 1e300, f64::INFINITY]),
-        },
-        _ => Field {
-            place: Place::Number(rng.pick(&[6, 7])),
-            declined: bits(&[f64::NAN, -1e-300, 16.000000000000004, f64::INFINITY]),
-            passed: bits(&[0.0, -0.0, 16.0, 0.1]),
-        },
+impl Call {
+    fn opening(setup: &Setup) -> Self {
+        let Numbers { f32s, f64s, flags } = setup.numbers();
+        Call::Open { f32s, f64s, flags, lists: setup.clone() }
     }
-}
 
-fn put(memory: &mut Memory, place: &Place, value: u64) {
-    match *place {
-        Place::Number(at) => memory.numbers[at] = f64::from_bits(value),
-        Place::Word(at) => memory.words[at] = value,
-        Place::Count(at) => memory.counts[at] = value,
-        Place::NewestNeed => {
-            let newest = (memory.words[QUEUE_HEAD] + memory.words[QUEUE_LEN] - 1) as usize % QUEUE;
-            memory.store[NEEDS_AT + newest] = f64::from_bits(value);
+    fn running(samples: Vec<f64>) -> Self {
+        let outputs = [2 * samples.len(), samples.len()];
+        Call::Run { samples, drums: 1, outputs }
+    }
+
+    fn latching() -> Self {
+        Call::Latch { to: [0.25, 0.75], over: [7, 9] }
+    }
+
+    fn name(&self) -> &'static str {
+        match self {
+            Call::Open { .. } => "open",
+            Call::Run { .. } => "run",
+            Call::Latch { .. } => "latch",
+            Call::Rest => "rest",
         }
     }
 }
 
-/// What a run of one sample, a latch and a rest answer.
-fn answers(memory: &Memory) -> [u64; 3] {
-    let mut run = memory.clone();
-    let mut latch = memory.clone();
-    let mut rest = memory.clone();
-    [
-        run.whole().run(&[0.5], 1, &mut [0.0; 2], &mut [0; 1]),
-        latch.whole().latch([0.25; 2], [7; 2]),
-        rest.whole().rest(&mut [0]),
-    ]
+/// What a call writes into beside the strip's memory.
+struct Outputs {
+    lengths: [usize; 2],
+    frames: Vec<f32>,
+    gains: Vec<u64>,
+    rests: [u64; 1],
 }
+
+impl Outputs {
+    fn of(call: &Call) -> Self {
+        let lengths = if let Call::Run { outputs, .. } = call { *outputs } else { [0; 2] };
+        let [frames, gains] = lengths.map(|len| len + 2 * GUARD);
+        Self { lengths, frames: vec![FRAME; frames], gains: vec![GAIN; gains], rests: [GAIN] }
+    }
+
+    fn lent(&mut self) -> (&mut [f32], &mut [u64]) {
+        let [frames, gains] = self.lengths;
+        (&mut self.frames[GUARD..][..frames], &mut self.gains[GUARD..][..gains])
+    }
+
+    /// Whether all is as it was but what a run writes.
+    fn kept(&self, wrote: bool) -> bool {
+        let [frames, gains] = if wrote { self.lengths } else { [0; 2] };
+        self.frames[..GUARD].iter().chain(&self.frames[GUARD + frames..]).all(|&x| x == FRAME)
+            && self.gains[..GUARD].iter().chain(&self.gains[GUARD + gains..]).all(|&n| n == GAIN)
+    }
+}
+
+/// The memory that calls are made on; how often each call gave each answer, and how often each ground alone gave it.
+struct Bench {
+    memory: Memory,
+    before: Memory,
+    report: Report,
+    answers: BTreeMap<(&'static str, u64), u64>,
+    met: BTreeMap<(&'static str, u64, &'static str), u64>,
+}
+
+impl Bench {
+    /// A call that is lent the first elements of each list, so many.
+    fn call(&mut self, lent: [usize; 4], call: &Call) -> u64 {
+        let Self { memory, before, .. } = self;
+        before.become_as(memory);
+        let mut out = Outputs::of(call);
+        let strip = memory.lend(lent);
+        let (grounds, answer) = match call {
+            Call::Open { f32s, f64s, flags, lists } => {
+                (refusals::open(lent, f32s, f64s, *flags, lists), strip.open_by(f32s, f64s, *flags, lists))
+            }
+            Call::Run { samples, drums, outputs } => {
+                let (frames, gains) = out.lent();
+                (refusals::run(before, lent, samples, *outputs), strip.run(samples, *drums, frames, gains))
+            }
+            Call::Latch { to, over } => (refusals::latch(before, lent, *to, *over), strip.latch(*to, *over)),
+            Call::Rest => (refusals::rest(before, lent), strip.rest(&mut out.rests)),
+        };
+        self.count(call.name(), &grounds);
+        if let Some(fault) = self.fault(call, &grounds, answer, &out) {
+            let (words, numbers) = (&self.before.words[..WORDS], &self.before.numbers[..15]);
+            let strip = format!("words {words:?}, numbers {numbers:?} ..");
+            self.report.differs(0, format!("{call:?} lent {lent:?} of {strip} answers {answer}: {fault}"));
+        }
+        answer
+    }
+
+    fn count(&mut self, name: &'static str, grounds: &Grounds) {
+        let answer = grounds.answer();
+        self.report.cases += 1;
+        *self.answers.entry((name, answer)).or_default() += 1;
+        *self.met.entry((name, 0, "no ground")).or_default() += u64::from(answer == 0);
+        for ground in &grounds.0 {
+            self.met.entry((name, ground.0, ground.1)).or_default();
+        }
+        if let Some(alone) = grounds.alone() {
+            *self.met.entry((name, answer, alone)).or_default() += 1;
+        }
+    }
+
+    /// What is wrong with a call's answer or with what it wrote.
+    fn fault(&mut self, call: &Call, grounds: &Grounds, answer: u64, out: &Outputs) -> Option<String> {
+        if answer != grounds.answer() {
+            let why: Vec<&str> = grounds.0.iter().filter(|ground| ground.2).map(|ground| ground.1).collect();
+            return Some(format!("by 01 it is {}, for {why:?}", grounds.answer()));
+        }
+        // what the call may write: nothing where it declines, a latch the packed strip, a rest none of it
+        let writes = match call {
+            _ if answer != 0 => [0; 4],
+            Call::Rest => [0; 4],
+            Call::Latch { .. } => [NUMBERS, WORDS, 0, 0],
+            Call::Open { .. } | Call::Run { .. } => ASKED,
+        };
+        if !self.memory.same_from(&self.before, writes) {
+            return Some("memory altered that is not the call's".into());
+        }
+        if !out.kept(answer == 0) {
+            return Some("outputs altered that are not the call's".into());
+        }
+        let rests = match call {
+            Call::Rest if answer == 0 => u64::from(refusals::rests(&self.before)),
+            _ => GAIN,
+        };
+        *self.met.entry(("rest", 0, "at rest")).or_default() += u64::from(rests == 1);
+        *self.met.entry(("rest", 0, "sounding")).or_default() += u64::from(rests == 0);
+        if out.rests[0] != rests {
+            return Some(format!("rests is {} and not {rests}", out.rests[0]));
+        }
+        let [from, to] = [&self.before, &self.memory].map(|memory| memory.words[refusals::POSITION]);
+        match call {
+            Call::Run { samples, .. } if answer == 0 && to != from + samples.len() as u64 => {
+                Some(format!("the position is {to}"))
+            }
+            _ => None,
+        }
+    }
+
+    /// Fails where a ground never stood alone, and tells how often each answer was given.
+    fn finish(mut self) -> Report {
+        for (call, number, ground) in self.met.iter().filter(|met| *met.1 == 0).map(|met| met.0) {
+            self.report.differs(0, format!("no {call} at all in which {number} ({ground}) stood alone"));
+        }
+        for name in ["open", "run", "latch", "rest"] {
+            let answers = self.answers.iter().filter(|((call, _), _)| *call == name);
+            let told: Vec<String> = answers.map(|((_, answer), many)| format!("{answer} {many} times")).collect();
+            self.report.tell(format!("{name} answered {}", told.join(", ")));
+        }
+        let least = self.met.values().min().copied().unwrap_or_default();
+        self.report.tell(format!("{} grounds and outcomes met alone, the rarest {least} times", self.met.len()));
+        self.report
+    }
+}
+
+// ---- places and values
+
+/// Where a value is put.
+#[derive(Clone, Copy, Debug)]
+enum Place {
+    Number(usize),
+    Word(usize),
+    Store(usize),
+    Count(usize),
+    /// A step, with the gain count made the total anew.
+    Step(usize),
+}
+
+impl Place {
+    fn is_float(self) -> bool {
+        matches!(self, Place::Number(_) | Place::Store(_))
+    }
+
+    fn at(self, memory: &Memory) -> u64 {
+        match self {
+            Place::Number(at) => memory.numbers[at].to_bits(),
+            Place::Word(at) => memory.words[at],
+            Place::Store(at) => memory.store[at].to_bits(),
+            Place::Count(at) | Place::Step(at) => memory.counts[at],
+        }
+    }
+
+    fn put(self, memory: &mut Memory, value: u64) {
+        match self {
+            Place::Number(at) => memory.numbers[at] = f64::from_bits(value),
+            Place::Word(at) => memory.words[at] = value,
+            Place::Store(at) => memory.store[at] = f64::from_bits(value),
+            Place::Count(at) => memory.counts[at] = value,
+            Place::Step(at) => {
+                memory.counts[at] = value;
+                memory.words[refusals::GAIN] = total(memory);
+            }
+        }
+    }
+}
+
+fn total(memory: &Memory) -> u64 {
+    refusals::STEPS.of(&memory.counts).iter().fold(0, |sum: u64, step| sum.wrapping_add(*step))
+}
+
+/// The ends of every range, one f64 or one f32 beside them, what is no f32, and NaNs of several payloads.
+const FLOATS: [f64; 37] = [
+    0.0,
+    -0.0,
+    5e-324,
+    -5e-324,
+    -1e-300,
+    1.401298464324817e-45,
+    -1.401298464324817e-45,
+    0.1,
+    0.09999999999999999,
+    0.10000000149011612,
+    0.09999999403953552,
+    0.3,
+    0.5,
+    1.0,
+    1.0000000000000002,
+    1.0000001192092896,
+    -1.0,
+    8.0,
+    8.000000000000002,
+    8.00000095367431640625,
+    16.0,
+    16.000000000000004,
+    19.0,
+    19.999998092651367,
+    20.0,
+    20.000001907348633,
+    1000.1,
+    20000.0,
+    20000.001953125,
+    1e300,
+    -1e300,
+    f64::INFINITY,
+    f64::NEG_INFINITY,
+    f64::NAN,
+    f64::from_bits(0x7ff8_0000_dead_beef),
+    f64::from_bits(0x7ff0_0000_0000_0001),
+    f64::from_bits(0xfff4_0123_4567_89ab),
+];
+
+const WHOLES: [u64; 25] = [
+    0,
+    1,
+    2,
+    3,
+    31,
+    32,
+    255,
+    256,
+    257,
+    882,
+    883,
+    884,
+    1023,
+    1024,
+    1025,
+    END - 1,
+    END,
+    END + 1,
+    UNIT,
+    UNIT + 1,
+    221 * UNIT,
+    221 * UNIT + 1,
+    1 << 53,
+    1 << 63,
+    u64::MAX,
+];
+
+/// The edges of a place, and what is next to the value that it has.
+fn edges(place: Place, now: u64) -> Vec<u64> {
+    let beside = [now.wrapping_add(1), now.wrapping_sub(1)];
+    let of: Vec<u64> = if place.is_float() { FLOATS.map(f64::to_bits).to_vec() } else { WHOLES.to_vec() };
+    of.into_iter().chain(beside).collect()
+}
+
+fn word(rng: &mut Rng) -> u64 {
+    match rng.below(3) {
+        0 => rng.pick(&WHOLES),
+        1 => rng.below(1100),
+        _ => rng.bits(),
+    }
+}
+
+fn number(rng: &mut Rng) -> f64 {
+    match rng.below(4) {
+        0 => rng.pick(&FLOATS),
+        1 => rng.unit(),
+        2 => rng.between(-2.0, 2.0),
+        _ => rng.any_f64(),
+    }
+}
+
+const STORE_PARTS: [Part; 4] = [refusals::LINES, refusals::NEEDS, refusals::WAITING, refusals::VALUES];
+const COUNT_PARTS: [Part; 5] =
+    [refusals::KICKS, refusals::MARKS, refusals::FRAMES, refusals::STEPS, refusals::POSITIONS];
+
+/// Every number and word; of each kept list its ends, what of it is in use, and what lies behind the last.
+fn places(memory: &Memory) -> Vec<Place> {
+    let mut out: Vec<Place> = (0..NUMBERS).map(Place::Number).chain((0..WORDS).map(Place::Word)).collect();
+    for Part { at, len } in STORE_PARTS {
+        out.extend([at, at + len / 2, at + len - 1].map(Place::Store));
+    }
+    for Part { at, len } in COUNT_PARTS {
+        out.extend([at, at + len / 2, at + len - 1].map(Place::Count));
+    }
+    let Part { at, len } = refusals::STEPS;
+    out.extend([at, at + len / 2, at + len - 1].map(Place::Step));
+    let queue: Vec<usize> = refusals::queue(&memory.words).collect();
+    out.extend(queue.first().into_iter().chain(queue.last()).map(|&at| Place::Store(at)));
+    let [points, kicks] = [refusals::POINTS, refusals::KICKED].map(|at| memory.words[at] as usize);
+    for i in [1, points / 2, points.saturating_sub(1)] {
+        out.extend([Place::Store(refusals::VALUES.at + i), Place::Count(refusals::POSITIONS.at + i)]);
+    }
+    for i in [1, kicks / 2, kicks.saturating_sub(1)] {
+        out.extend([Place::Count(i), Place::Count(refusals::MARKS.at + i)]);
+    }
+    out.extend([Place::Store(STORE - 1), Place::Count(COUNTS - 1)]);
+    out
+}
+
+/// Any place, each list as often as the others, and mostly what is in use of it.
+fn place(rng: &mut Rng, memory: &Memory) -> Place {
+    let within = |rng: &mut Rng, parts: &[Part]| {
+        let Part { at, len } = &parts[rng.below(parts.len() as u64) as usize];
+        at + rng.below(*len as u64) as usize
+    };
+    let [points, kicks] = [refusals::POINTS, refusals::KICKED].map(|at| memory.words[at].clamp(1, 256));
+    match rng.below(16) {
+        0..5 => Place::Number(rng.below(NUMBERS as u64) as usize),
+        5..10 => Place::Word(rng.below(WORDS as u64) as usize),
+        10 => Place::Store(within(rng, &STORE_PARTS)),
+        11 => Place::Count(within(rng, &COUNT_PARTS)),
+        12 => Place::Step(within(rng, &[refusals::STEPS])),
+        13 => refusals::queue(&memory.words).last().map_or(Place::Word(refusals::QUEUED), Place::Store),
+        14 => Place::Count(rng.below(kicks) as usize),
+        _ => {
+            let i = rng.below(points) as usize;
+            if rng.flag() { Place::Store(refusals::VALUES.at + i) } else { Place::Count(refusals::POSITIONS.at + i) }
+        }
+    }
+}
+
+fn value(rng: &mut Rng, place: Place, now: u64) -> u64 {
+    match rng.below(3) {
+        0 => {
+            let edges = edges(place, now);
+            rng.pick(&edges)
+        }
+        _ if place.is_float() => number(rng).to_bits(),
+        _ => word(rng),
+    }
+}
+
+// ---- strips
 
 /// A strip that calls lead to.
 fn good(rng: &mut Rng, setup: &Setup, len: usize, beyond: usize) -> Memory {
@@ -132,47 +402,229 @@ fn good(rng: &mut Rng, setup: &Setup, len: usize, beyond: usize) -> Memory {
     memory
 }
 
-fn one_thing(rng: &mut Rng, report: &mut Report) {
-    let len = rng.within(1, 400) as usize;
-    let setup = Setup::drawn(rng, len as u64);
-    let memory = good(rng, &setup, len, 0);
-    let Field { place, declined, passed } = field(rng, &setup);
-    let name = match &place {
-        Place::Number(at) => format!("number {at}"),
-        Place::Word(at) => format!("word {at}"),
-        Place::Count(at) => format!("count {at}"),
-        Place::NewestNeed => "the newest need".to_string(),
+fn unit(rng: &mut Rng) -> f64 {
+    if rng.flag() { rng.unit() } else { rng.pick(&[0.0, -0.0, 5e-324, 0.5, 1.0, 0.9999999999999999]) }
+}
+
+/// A strip that 4 passes, made of draws: of what 4 does not ask, anything.
+fn made(rng: &mut Rng, beyond: usize) -> Memory {
+    let mut memory = Memory::new(beyond);
+    let setup = Setup::drawn(rng, 400);
+    let Memory { numbers, words, store, counts } = &mut memory;
+    numbers[..NUMBERS].fill_with(|| number(rng));
+    words[..WORDS].fill_with(|| word(rng));
+    if rng.flag() {
+        store[..STORE].fill_with(|| number(rng));
+    } else {
+        store[..STORE].fill(0.0);
+    }
+    counts[..COUNTS].fill_with(|| word(rng));
+    let Setup { corners, drives, pad, gains, .. } = setup;
+    numbers[0] = f64::from(corners[0]);
+    if setup.graded {
+        numbers[1..4].copy_from_slice(&[corners[1], drives[0], drives[1]].map(f64::from));
+    } else {
+        numbers[1] = setup.drive;
+    }
+    if let Some(pad) = pad {
+        numbers[4..6].copy_from_slice(&pad.map(f64::from));
+    }
+    numbers[6..8].copy_from_slice(&gains);
+    numbers[8..11].copy_from_slice(&[f64::from(setup.daylight), f64::from(setup.rain), setup.send]);
+    numbers[84] = unit(rng);
+    let position = |rng: &mut Rng| match rng.below(3) {
+        0 => rng.below(20_000),
+        1 => END - rng.below(300),
+        _ => rng.within(0, END),
     };
-    for (value, number) in declined.into_iter().map(|v| (v, 4)).chain(passed.into_iter().map(|v| (v, 0))) {
-        let mut abused = memory.clone();
-        put(&mut abused, &place, value);
-        let ours = answers(&abused);
-        report.cases += 1;
-        let past_end = name == "word 0" && value == 1 << 32;
-        if ours != [if past_end { 6 } else { number }, number, number] {
-            let at = format!("{name} at {value}, after {len} samples of {setup:?}");
-            report.differs(len as u64, format!("{at}: {ours:?} and not {number}"));
+    let flags = [setup.graded, setup.pad.is_some(), setup.darkens, setup.ducked].map(u64::from);
+    words[0] = position(rng);
+    words[1..5].copy_from_slice(&flags);
+    words[refusals::POINTS] = setup.points.len() as u64;
+    for at in [6, 7, 9, 10] {
+        words[at] = position(rng);
+    }
+    words[8] = rng.below(2);
+    words[11] = rng.below(2);
+    let kicks = setup.kicks.len() as u64;
+    words[refusals::KICKED] = kicks;
+    words[13] = rng.within(0, kicks);
+    words[14] = rng.within(0, kicks);
+    words[refusals::HEAD] = rng.below(883);
+    words[refusals::QUEUED] = rng.within(0, 883);
+    let Part { at, len } = refusals::NEEDS;
+    store[at..at + len].fill_with(|| unit(rng));
+    store[refusals::VALUES.at..][..setup.values.len()].copy_from_slice(&setup.values);
+    counts[..setup.kicks.len()].copy_from_slice(&setup.kicks);
+    counts[refusals::POSITIONS.at..][..setup.points.len()].copy_from_slice(&setup.points);
+    let Part { at, len } = refusals::STEPS;
+    counts[at..at + len].fill_with(|| rng.pick(&[0, 1, UNIT, UNIT - 1, UNIT / 2]));
+    memory.words[refusals::GAIN] = total(&memory);
+    memory
+}
+
+// ---- one thing at a time
+
+/// A setup that has everything, and one that has as little as can be.
+fn setups() -> [Setup; 2] {
+    let everything = Setup {
+        graded: true,
+        corners: [900.0, 9000.0],
+        drives: [1.25, 3.0],
+        drive: 1.5,
+        pad: Some([7.0, 0.5]),
+        darkens: true,
+        gains: [1.5, 0.75],
+        ducked: true,
+        daylight: 0.25,
+        rain: 0.75,
+        send: 0.5,
+        points: vec![10, 400, 400, END],
+        values: vec![1.0, 0.5, 0.25, 0.75],
+        kicks: vec![3, 70, 70, 900, END],
+    };
+    let little = Setup {
+        graded: false,
+        pad: None,
+        darkens: false,
+        ducked: false,
+        points: Vec::new(),
+        values: Vec::new(),
+        kicks: Vec::new(),
+        ..everything.clone()
+    };
+    [everything, little]
+}
+
+/// Every packed field and every kept list.
+fn each_place(rng: &mut Rng, bench: &mut Bench) {
+    for setup in setups() {
+        let strip = good(rng, &setup, 1000, 0);
+        let calls = [Call::running(vec![0.5, -2.0, 0.0]), Call::latching(), Call::Rest];
+        bench.memory.become_as(&strip);
+        for place in places(&strip) {
+            let now = place.at(&strip);
+            for value in edges(place, now) {
+                for call in &calls {
+                    place.put(&mut bench.memory, value);
+                    if bench.call(ASKED, call) == 0 {
+                        bench.memory.become_as(&strip);
+                    }
+                }
+                place.put(&mut bench.memory, now);
+            }
+        }
+    }
+}
+
+/// Every argument: lengths, outputs, the position, samples, controls, a setup's numbers, flags and lists.
+fn each_argument(rng: &mut Rng, bench: &mut Bench) {
+    for setup in setups() {
+        let strip = good(rng, &setup, 100, 1);
+        let case = |bench: &mut Bench, lent: [usize; 4], position: Option<u64>, call: &Call| {
+            bench.memory.become_as(&strip);
+            bench.memory.words[refusals::POSITION] = position.unwrap_or(100);
+            bench.call(lent, call);
+        };
+        let samples = vec![0.5, 1024.0, -1024.0];
+        for call in [Call::opening(&setup), Call::running(samples.clone()), Call::latching(), Call::Rest] {
+            for list in 0..4 {
+                for many in [0, 1, ASKED[list] - 1, ASKED[list], ASKED[list] + 1] {
+                    let mut lent = ASKED;
+                    lent[list] = many;
+                    case(bench, lent, None, &call);
+                }
+            }
+        }
+        for outputs in [[6, 3], [5, 3], [7, 3], [0, 3], [3, 3], [6, 2], [6, 4], [6, 0], [6, 6], [0, 0]] {
+            case(bench, ASKED, None, &Call::Run { samples: samples.clone(), drums: 0, outputs });
+        }
+        for position in END - 4..=END + 1 {
+            case(bench, ASKED, Some(position), &Call::running(samples.clone()));
+            case(bench, ASKED, Some(position), &Call::running(Vec::new()));
+        }
+        for at in 0..samples.len() {
+            for bad in [1024.0000000000002, -1025.0, f64::NAN, f64::INFINITY, f64::NEG_INFINITY, f64::MAX, 1024.0] {
+                let mut samples = samples.clone();
+                samples[at] = bad;
+                case(bench, ASKED, None, &Call::running(samples));
+            }
+        }
+        for at in 0..2 {
+            for x in FLOATS {
+                let mut to = [0.25, 0.75];
+                to[at] = x as f32;
+                case(bench, ASKED, None, &Call::Latch { to, over: [0; 2] });
+            }
+            for len in WHOLES {
+                let mut over = [3, 5];
+                over[at] = len;
+                case(bench, ASKED, None, &Call::Latch { to: [0.5; 2], over });
+            }
+        }
+        each_setting(bench, &setup);
+    }
+}
+
+/// What open is given.
+fn each_setting(bench: &mut Bench, setup: &Setup) {
+    let Numbers { f32s, f64s, flags } = setup.numbers();
+    let mut open = |f32s: [f32; 8], f64s: [f64; 4], flags: u64, lists: Setup| {
+        bench.call(ASKED, &Call::Open { f32s, f64s, flags, lists });
+    };
+    for x in FLOATS {
+        for at in 0..8 {
+            let mut f32s = f32s;
+            f32s[at] = x as f32;
+            open(f32s, f64s, flags, setup.clone());
+        }
+        for at in 0..4 {
+            let mut f64s = f64s;
+            f64s[at] = x;
+            open(f32s, f64s, flags, setup.clone());
+        }
+    }
+    for flags in (0..=16).chain([1 << 32, 1 << 63, u64::MAX]) {
+        open(f32s, f64s, flags, setup.clone());
+    }
+    let mut lists = |points: Vec<u64>, values: Vec<f64>, kicks: Vec<u64>| {
+        open(f32s, f64s, flags, Setup { points, values, kicks, ..setup.clone() });
+    };
+    for many in [0, 1, 255, 256, 257, 1000] {
+        lists(vec![5; many], vec![0.5; many], Vec::new());
+    }
+    for many in [0, 1, 1023, 1024, 1025, 5000] {
+        lists(Vec::new(), Vec::new(), vec![5; many]);
+    }
+    for (points, values) in [(0, 1), (1, 0), (3, 2), (256, 255)] {
+        lists(vec![5; points], vec![0.5; values], Vec::new());
+    }
+    for x in FLOATS {
+        for at in 0..3 {
+            let mut values = vec![0.0, 0.5, 1.0];
+            values[at] = x;
+            lists(vec![1, 2, 3], values, Vec::new());
+        }
+    }
+    for n in WHOLES {
+        for at in 0..3 {
+            let mut positions = vec![40, 900, 1 << 31];
+            positions[at] = n;
+            lists(positions.clone(), vec![0.5; 3], Vec::new());
+            lists(Vec::new(), Vec::new(), positions);
         }
     }
 }
 
 // ---- anything
 
-fn word(rng: &mut Rng) -> u64 {
-    match rng.below(4) {
-        0 => rng.pick(&[0, 1, 2, 255, 256, 257, 882, 883, 884, 1023, 1024, 1025, UNIT, UNIT + 1, STEPS * UNIT]),
-        1 => rng.pick(&[(1 << 32) - 1, 1 << 32, OVER, u64::MAX, 1 << 63, 1 << 53]),
-        2 => rng.below(1024),
-        _ => rng.bits(),
-    }
-}
-
-fn number(rng: &mut Rng) -> f64 {
-    match rng.below(4) {
-        0 => rng.pick(&[0.0, -0.0, 0.5, 1.0, -1.0, 1e-20, 1e300, -1e300, f64::MIN_POSITIVE, 5e-324, f64::MAX]),
-        1 => rng.pick(&[f64::NAN, -f64::NAN, f64::INFINITY, f64::NEG_INFINITY]),
-        2 => rng.unit(),
-        _ => rng.any_f64(),
+/// How much is lent of a list that has `has` elements and of which `asked` are asked: mostly enough.
+fn lent(rng: &mut Rng, has: usize, asked: usize) -> usize {
+    match rng.below(72) {
+        0 => rng.below(asked as u64) as usize,
+        1 => asked - 1,
+        2 => 0,
+        _ => rng.within(asked as u64, has as u64) as usize,
     }
 }
 
@@ -188,67 +640,8 @@ fn scatter<T>(rng: &mut Rng, list: &mut [T], value: fn(&mut Rng) -> T) {
     }
 }
 
-/// How much is lent of a list that has `has` elements and of which `asked` are asked: mostly enough.
-fn lent(rng: &mut Rng, has: usize, asked: usize) -> usize {
-    match rng.below(72) {
-        0 => rng.below(asked as u64) as usize,
-        1 => asked - 1,
-        2 => 0,
-        _ => rng.within(asked as u64, has as u64) as usize,
-    }
-}
-
-/// Outputs with elements before and after what is lent.
-const GUARD: usize = 3;
-const FRAME: f32 = -7.0;
-const GAIN: u64 = 77;
-
-#[derive(Default)]
-struct Tally([u64; 9]);
-
-fn anything(rng: &mut Rng, report: &mut Report, tally: &mut Tally) {
-    let len = rng.below(200) as usize;
-    let mut setup = Setup::drawn(rng, 400);
-    let mut memory = good(rng, &setup, len, 16);
-    for _ in 0..rng.within(1, 6) {
-        match rng.below(9) {
-            0 => scatter(rng, &mut memory.numbers, number),
-            1 => scatter(rng, &mut memory.words, word),
-            2 => scatter(rng, &mut memory.counts, word),
-            // the filters' numbers and the lines, of which 4 asks nothing
-            3 => scatter(rng, &mut memory.numbers[15..84], number),
-            4 | 5 => scatter(rng, &mut memory.store[..NEEDS_AT], number),
-            6 => scatter(rng, &mut memory.store, number),
-            7 => memory.words[0] = (1 << 32) - rng.below(200),
-            _ => {}
-        }
-        one_call(rng, report, tally, &mut setup, &mut memory);
-    }
-}
-
-fn one_call(rng: &mut Rng, report: &mut Report, tally: &mut Tally, setup: &mut Setup, memory: &mut Memory) {
-    let before = memory.clone();
-    let has = memory.lengths();
-    let asked = [NUMBERS, WORDS, STORE, COUNTS];
-    let mut lengths = [0; 4];
-    for i in 0..4 {
-        lengths[i] = lent(rng, has[i], asked[i]);
-    }
-    let many = rng.below(120) as usize;
-    let mut samples = signal::drawn(rng, many).to_vec();
-    if rng.once_in(8) {
-        scatter(rng, &mut samples, number);
-    }
-    let mut end = |elements: usize| {
-        if rng.once_in(12) { rng.below((elements + GUARD) as u64) as usize } else { elements }
-    };
-    let (frames_len, gains_len) = (end(2 * many), end(many));
-    let mut frames = vec![FRAME; 2 * many + 2 * GUARD];
-    let mut gains = vec![GAIN; many + 2 * GUARD];
-    let mut rests = [GAIN];
-    let call = rng.below(5);
-    let lent = memory.lend(lengths);
-    let (name, answer) = match call {
+fn drawn(rng: &mut Rng, setup: &mut Setup) -> Call {
+    match rng.below(6) {
         0 => {
             if rng.once_in(4) {
                 spoil(rng, setup);
@@ -256,61 +649,90 @@ fn one_call(rng: &mut Rng, report: &mut Report, tally: &mut Tally, setup: &mut S
             let Numbers { mut f32s, mut f64s, mut flags } = setup.numbers();
             if rng.once_in(4) {
                 scatter(rng, &mut f64s, number);
-                scatter(rng, &mut f32s, |rng| rng.any_f32());
+                scatter(rng, &mut f32s, |rng| if rng.flag() { rng.any_f32() } else { number(rng) as f32 });
                 flags = if rng.once_in(4) { word(rng) } else { flags };
             }
-            ("open", lent.open_by(&f32s, &f64s, flags, setup))
+            Call::Open { f32s, f64s, flags, lists: setup.clone() }
         }
-        1 => ("latch", lent.latch([number(rng) as f32, control(rng)], [length(rng), word(rng)])),
-        2 => ("rest", lent.rest(&mut rests)),
+        1 => {
+            let (mut to, mut over) = ([control(rng), control(rng)], [length(rng), length(rng)]);
+            if rng.once_in(3) {
+                scatter(rng, &mut to, |rng| number(rng) as f32);
+            }
+            if rng.once_in(3) {
+                scatter(rng, &mut over, word);
+            }
+            Call::Latch { to, over }
+        }
+        2 => Call::Rest,
         _ => {
-            let (frames, gains) = (&mut frames[GUARD..][..frames_len], &mut gains[GUARD..][..gains_len]);
-            ("run", lent.run(&samples, word(rng), frames, gains))
+            let many = rng.below(120) as usize;
+            let mut samples = signal::drawn(rng, many).to_vec();
+            if rng.once_in(8) {
+                scatter(rng, &mut samples, number);
+            }
+            let mut end = |elements: usize| {
+                if rng.once_in(12) { rng.below((elements + GUARD) as u64) as usize } else { elements }
+            };
+            let outputs = [end(2 * many), end(many)];
+            Call::Run { samples, drums: word(rng), outputs }
         }
-    };
-    report.cases += 1;
-    let mut wrong = |what: &str| {
-        let call = format!("{name} lent {lengths:?} of {has:?}, {many} samples, answers {answer}");
-        report.differs(many as u64, format!("{call}: {what}"));
-    };
-    let Some(count) = tally.0.get_mut(answer as usize) else {
-        return wrong("no number of a refusal");
-    };
-    *count += 1;
-    // what the call may write: nothing where it declines; a latch writes the packed strip, a rest none of it
-    let writes = match name {
-        _ if answer != 0 => [0; 4],
-        "latch" => [NUMBERS, WORDS, 0, 0],
-        "rest" => [0; 4],
-        _ => asked,
-    };
-    if !memory.same_from(&before, writes) {
-        wrong("memory altered that is not the call's");
     }
-    let wrote = if answer == 0 && name == "run" { many } else { 0 };
-    let kept = frames[..GUARD].iter().chain(&frames[GUARD + 2 * wrote..]).all(|&x| x == FRAME)
-        && gains[..GUARD].iter().chain(&gains[GUARD + wrote..]).all(|&n| n == GAIN);
-    if !kept {
-        wrong("outputs altered that are not the call's");
-    }
-    if (name == "rest" && answer == 0) != (rests[0] < 2) || (rests[0] >= 2 && rests[0] != GAIN) {
-        wrong("a rest answer that is not the call's");
+}
+
+/// Elements of each list past the asked ones.
+const BEYOND: usize = 16;
+
+fn anything(rng: &mut Rng, bench: &mut Bench) {
+    let mut setup = Setup::drawn(rng, 400);
+    let mut strip = if rng.flag() {
+        let len = rng.below(200) as usize;
+        good(rng, &setup, len, BEYOND)
+    } else {
+        made(rng, BEYOND)
+    };
+    for _ in 0..rng.within(1, 6) {
+        bench.memory.become_as(&strip);
+        for _ in 0..rng.pick(&[0, 0, 1, 1, 1, 2, 5]) {
+            let place = place(rng, &bench.memory);
+            let value = value(rng, place, place.at(&bench.memory));
+            place.put(&mut bench.memory, value);
+        }
+        match rng.below(24) {
+            0 => scatter(rng, &mut bench.memory.numbers, number),
+            1 => scatter(rng, &mut bench.memory.words, word),
+            2 => scatter(rng, &mut bench.memory.counts, word),
+            3 => scatter(rng, &mut bench.memory.store, number),
+            // the filters' numbers and the lines, of which 4 asks nothing
+            4 => scatter(rng, &mut bench.memory.numbers[15..84], number),
+            5 => scatter(rng, &mut bench.memory.store[..refusals::NEEDS.at], number),
+            6 => bench.memory.words[refusals::POSITION] = END - rng.below(200),
+            _ => {}
+        }
+        let has = bench.memory.lengths();
+        let mut lengths = [0; 4];
+        for i in 0..4 {
+            lengths[i] = lent(rng, has[i], ASKED[i]);
+        }
+        // a strip that is accepted goes on as the call left it, one that is declined as it was before
+        if bench.call(lengths, &drawn(rng, &mut setup)) == 0 {
+            strip.become_as(&bench.memory);
+        }
     }
 }
 
 pub fn run(rng: &mut Rng, budget: Budget) -> Report {
-    let mut report = Report::default();
-    let mut tally = Tally::default();
+    let (memory, before) = (Memory::new(0), Memory::new(0));
+    let (answers, met) = (BTreeMap::new(), BTreeMap::new());
+    let mut bench = Bench { memory, before, report: Report::default(), answers, met };
+    each_place(rng, &mut bench);
+    each_argument(rng, &mut bench);
     let mut lists = 0;
     while budget.has_time(lists) {
         lists += 1;
-        one_thing(rng, &mut report);
         for _ in 0..8 {
-            anything(rng, &mut report, &mut tally);
+            anything(rng, &mut bench);
         }
     }
-    let [accepted, refused @ ..] = tally.0;
-    let refused: Vec<String> = refused.iter().enumerate().map(|(i, many)| format!("{} by {}", many, i + 1)).collect();
-    report.tell(format!("{accepted} calls on anything accepted; declined {}", refused.join(", ")));
-    report
+    bench.finish()
 }

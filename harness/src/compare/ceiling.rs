@@ -2,13 +2,16 @@
 
 use oracle::stream::master::Ceiling;
 
-use super::lists::{self, List};
+use super::lists::{self, List, Met};
 use crate::part;
 use crate::report::{Budget, Report};
 use crate::rng::Rng;
 use crate::setup::RATE;
 use crate::shrink::{Shrink, halves};
 use crate::signal::{self, Signal};
+
+/// The gain count of 1.
+const GAIN_OF_ONE: u64 = 221 << 40;
 
 #[derive(Clone, Debug)]
 struct Case {
@@ -47,6 +50,8 @@ impl Case {
 }
 
 impl List for Case {
+    const MATTERS: &[&str] = &["a gain below 1", "a release", "a NaN", "more frames than the window"];
+
     fn drawn(rng: &mut Rng) -> Self {
         let len = rng.scaled(1.0, 8000.0) as usize;
         let left = if rng.once_in(4) { steady(rng, len) } else { signal::wild(rng, len) };
@@ -59,9 +64,13 @@ impl List for Case {
         self.left.len() as u64
     }
 
-    fn difference(&self) -> Option<String> {
+    fn difference(&self, met: &mut Met) -> Option<String> {
         let (our_frames, our_gains) = part::ceiling(&self.left, &self.right, &self.calls);
         let (frames, gains) = self.oracle();
+        met.note("a gain below 1", gains.iter().any(|&count| count < GAIN_OF_ONE));
+        met.note("a release", gains.windows(2).any(|two| two[0] < two[1]));
+        met.note("a NaN", frames.iter().any(|side| side.is_nan()));
+        met.note("more frames than the window", gains.len() > 882);
         lists::first("gain count", &our_gains, &gains).or_else(|| lists::first("side", &our_frames, &frames))
     }
 }

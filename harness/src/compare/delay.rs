@@ -41,7 +41,8 @@ pub fn run(rng: &mut Rng, budget: Budget) -> Report {
             part::push(&mut ring, written, x);
             line.push(x);
             written += 1;
-            let same = ring.iter().zip(line.ring()).all(|(a, b)| a.to_bits() == b.to_bits());
+            let patterns = |ring: &[f64]| ring.iter().map(|x| x.to_bits()).collect::<Vec<_>>();
+            let same = patterns(&ring) == patterns(line.ring());
             report.compare(len as u64, || format!("a push of {x:?} into {len} at {written}"), same, true);
             let back = rng.below(2 * len as u64);
             let input = || format!("{back} back of {len} at {written}: {ring:?}");

@@ -4,7 +4,7 @@ use oracle::stream::lanes::Duck;
 use oracle::stream::gain_of_db;
 use oracle::synth::{SIDECHAIN_ATTACK_S, SIDECHAIN_DB, SIDECHAIN_RELEASE_S, samples_at, sidechain_gain};
 
-use super::lists::{self, List};
+use super::lists::{self, List, Met};
 use crate::part::{self, goqhari_test_sidechain};
 use crate::report::{Budget, Report};
 use crate::rng::Rng;
@@ -51,6 +51,8 @@ impl Case {
 }
 
 impl List for Case {
+    const MATTERS: &[&str] = &["a duck", "a release"];
+
     fn drawn(rng: &mut Rng) -> Self {
         let start = if rng.flag() { 0 } else { rng.below(1 << 31) };
         let span = rng.scaled(32.0, 40000.0) as u64;
@@ -70,8 +72,12 @@ impl List for Case {
         self.runs.iter().map(|run| run.0).sum()
     }
 
-    fn difference(&self) -> Option<String> {
-        lists::first("gain", &self.ours(), &self.oracle())
+    fn difference(&self, met: &mut Met) -> Option<String> {
+        let oracle = self.oracle();
+        let ducked = oracle.iter().position(|&gain| gain < 1.0);
+        met.note("a duck", ducked.is_some());
+        met.note("a release", ducked.is_some_and(|at| oracle[at..].contains(&1.0)));
+        lists::first("gain", &self.ours(), &oracle)
     }
 }
 

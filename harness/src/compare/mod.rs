@@ -18,6 +18,7 @@ pub mod plate;
 pub mod pow;
 pub mod pow_f32;
 pub mod ramp;
+pub mod refusals;
 pub mod section;
 pub mod sin;
 pub mod sin_f32;

@@ -1,9 +1,9 @@
-//! The one-pole: its step from any state, the tilt under any rain, and the poles that the rate has.
+//! The one-pole: its step from any state, the tilt under any rain, by value and lent, and the poles that the rate has.
 
 use oracle::stream::onepole::{OnePole, Tilt};
 use oracle::stream::rain;
 
-use crate::part::{goqhari_test_onepole, goqhari_test_pole, goqhari_test_tilt};
+use crate::part::{goqhari_test_onepole, goqhari_test_pole, goqhari_test_tilt, goqhari_test_tilt_lent};
 use crate::report::{Budget, Report};
 use crate::rng::Rng;
 use crate::setup::RATE;
@@ -33,13 +33,16 @@ pub fn run(rng: &mut Rng, budget: Budget) -> Report {
         let input = || format!("pole and y {state:?}, sample {x:?}");
         report.compare(x.abs().to_bits(), input, (ours, out), (oracle.parts(), y));
         let wet = if rng.flag() { rng.unit() } else { rng.pick(&[0.0, 1.0, -0.0, 0.5]) };
-        let mut ours = state;
-        let out = goqhari_test_tilt(&mut ours, wet, x);
         let mut oracle = Tilt::of(state[0], state[1]);
         let mut one = [x];
         oracle.process_lifted(&mut one, |_| rain::lift(wet));
-        let input = || format!("the tilt, pole and y {state:?}, rain {wet:?}, sample {x:?}");
-        report.compare(x.abs().to_bits(), input, (ours, out), (oracle.parts(), one[0]));
+        let (mut ours, mut lent) = (state, state);
+        let out = goqhari_test_tilt(&mut ours, wet, x);
+        let lent_out = goqhari_test_tilt_lent(&mut lent, wet, x);
+        for (form, ours) in [("tilt", (ours, out)), ("lent tilt", (lent, lent_out))] {
+            let input = || format!("the {form}, pole and y {state:?}, rain {wet:?}, sample {x:?}");
+            report.compare(x.abs().to_bits(), input, ours, (oracle.parts(), one[0]));
+        }
     }
     report
 }

@@ -2,7 +2,7 @@
 
 use oracle::stream::plate::Plate;
 
-use super::lists::{self, List};
+use super::lists::{self, List, Met};
 use crate::part;
 use crate::report::{Budget, Report};
 use crate::rng::Rng;
@@ -46,6 +46,8 @@ impl Case {
 }
 
 impl List for Case {
+    const MATTERS: &[&str] = &["rest after a sound", "sound", "NaN"];
+
     fn drawn(rng: &mut Rng) -> Self {
         let x = if rng.once_in(8) {
             fading(rng)
@@ -60,9 +62,12 @@ impl List for Case {
         self.x.len() as u64
     }
 
-    fn difference(&self) -> Option<String> {
+    fn difference(&self, met: &mut Met) -> Option<String> {
         let ([our_left, our_right], our_rest) = part::plate(&self.x, &self.calls);
         let ([left, right], rest) = self.oracle();
+        met.note("rest after a sound", rest && left.iter().any(|&y| y != 0.0));
+        met.note("sound", !rest);
+        met.note("NaN", left.iter().any(|y| y.is_nan()));
         lists::first("left", &our_left, &left)
             .or_else(|| lists::first("right", &our_right, &right))
             .or_else(|| lists::first("rest answer", &[our_rest], &[rest]))

@@ -1,6 +1,6 @@
 //! Lists of calls to the library: open, runs, latches and rests, accepted and declined, in one strip and one pair of stores.
 
-use super::lists::{self, List};
+use super::lists::{self, List, Met};
 use super::tape::length;
 use crate::library::{COUNTS, Memory, STORE};
 use crate::report::{Budget, Report};
@@ -165,13 +165,19 @@ impl Case {
     }
 }
 
+/// The answers of a list of calls: 4 declines none of it, and 6 lies too far.
+const ANSWERS: [(u64, &str); 9] =
+    [(0, "0"), (1, "1"), (2, "2"), (3, "3"), (5, "5"), (7, "7"), (8, "8"), (REST, "sound"), (REST + 1, "rest")];
+
 impl List for Case {
+    const MATTERS: &[&str] = &["0", "1", "2", "3", "5", "7", "8", "sound", "rest"];
+
     fn drawn(rng: &mut Rng) -> Self {
         let many = 1 + rng.below(16) as usize;
         let calls: Vec<Call> = (0..many).map(|_| Call::drawn(rng)).collect();
         let span = calls.iter().map(|call| call.samples().len() as u64).sum();
         let mut setup = Setup::drawn(rng, span);
-        if rng.once_in(16) {
+        if rng.once_in(8) {
             spoil(rng, &mut setup);
         }
         Self { setup, beyond: rng.below(3) as usize * 5, calls }
@@ -181,8 +187,11 @@ impl List for Case {
         self.calls.iter().map(|call| call.samples().len() as u64).sum()
     }
 
-    fn difference(&self) -> Option<String> {
+    fn difference(&self, met: &mut Met) -> Option<String> {
         let ((ours, kept), oracle) = (self.ours(), self.oracle());
+        for (answer, name) in ANSWERS {
+            met.note(name, oracle.answers.contains(&answer));
+        }
         lists::first("answer", &ours.answers, &oracle.answers)
             .or_else(|| lists::first("gain count", &ours.gains, &oracle.gains))
             .or_else(|| lists::first("side", &ours.frames, &oracle.frames))
@@ -190,18 +199,25 @@ impl List for Case {
     }
 }
 
-/// One number or list outside its range.
+/// One number or list outside its range. A number that the tone or the pad leaves out may be.
 pub fn spoil(rng: &mut Rng, s: &mut Setup) {
-    match rng.below(10) {
-        0 => s.corners[0] = rng.pick(&[19.999998, 20000.002, f32::NAN, f32::INFINITY]),
+    let unit = |rng: &mut Rng| rng.pick(&[-1e-45, 1.0000001, f32::NAN]);
+    match rng.below(16) {
+        0 => s.corners[rng.below(2) as usize] = rng.pick(&[19.999998, 20000.002, f32::NAN, f32::INFINITY]),
         1 => s.drive = rng.pick(&[0.09999999999999999, 8.000000000000002, f64::NAN]),
-        2 => s.gains[rng.below(2) as usize] = rng.pick(&[-1e-300, 16.000000000000004, f64::NAN]),
-        3 => s.daylight = rng.pick(&[-1e-45, 1.0000001, f32::NAN]),
-        4 => s.rain = rng.pick(&[-1e-45, 1.0000001, f32::NAN]),
-        5 => s.send = rng.pick(&[-1e-300, 1.0000000000000002, f64::NAN]),
-        6 => s.points = vec![0; s.values.len() + 1],
-        7 => s.kicks = rng.pick(&[[1, 0], [0, (1 << 32) + 1]]).to_vec(),
-        8 => s.kicks = vec![0; 1025],
+        2 => s.drives[rng.below(2) as usize] = rng.pick(&[0.099999994, 8.000001, f32::NAN]),
+        3 => s.pad = Some([rng.pick(&[-1e-45, 20.000002, f32::NAN]), 0.5]),
+        4 => s.pad = Some([7.0, unit(rng)]),
+        5 => s.gains[rng.below(2) as usize] = rng.pick(&[-1e-300, 16.000000000000004, f64::NAN]),
+        6 => s.daylight = unit(rng),
+        7 => s.rain = unit(rng),
+        8 => s.send = rng.pick(&[-1e-300, 1.0000000000000002, f64::NAN]),
+        9 => s.points = vec![0; s.values.len() + 1],
+        10 => s.kicks = rng.pick(&[[1, 0], [0, (1 << 32) + 1]]).to_vec(),
+        11 => s.kicks = vec![0; 1025],
+        12 => (s.points, s.values) = (rng.pick(&[[1, 0], [0, (1 << 32) + 1]]).to_vec(), vec![0.5; 2]),
+        13 => (s.points, s.values) = (vec![7; 257], vec![0.5; 257]),
+        14 => s.values.push(0.5),
         _ => (s.points, s.values) = (vec![7], vec![rng.pick(&[f64::NAN, -1e-300, 1.0000000000000002])]),
     }
 }

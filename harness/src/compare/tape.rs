@@ -2,7 +2,7 @@
 
 use oracle::Controls;
 
-use super::lists::{self, List};
+use super::lists::{self, List, Met};
 use crate::part::{self, Call};
 use crate::report::{Budget, Report};
 use crate::rng::Rng;
@@ -74,6 +74,8 @@ impl Case {
 }
 
 impl List for Case {
+    const MATTERS: &[&str] = &["rest", "sound", "NaN"];
+
     fn drawn(rng: &mut Rng) -> Self {
         if rng.once_in(6) {
             return Self::flipped(rng);
@@ -95,8 +97,10 @@ impl List for Case {
         self.samples.len() as u64
     }
 
-    fn difference(&self) -> Option<String> {
+    fn difference(&self, met: &mut Met) -> Option<String> {
         let ((ours, our_rest), (oracle, rest)) = (self.ours(), self.oracle());
+        met.note(if rest { "rest" } else { "sound" }, true);
+        met.note("NaN", oracle.iter().any(|y| y.is_nan()));
         lists::first("sample", &ours, &oracle).or_else(|| lists::first("rest answer", &[our_rest], &[rest]))
     }
 }

@@ -1,13 +1,14 @@
 use Prim.Native.Nat.{_≤_, _-_}
+use lib.ListN.{length}
 use borrow.Author.Needs.{needs}
 use Rattle.replay_stages.proofs.sides_alike.Statement.{statement}
 use Rattle.replay_stages.proofs.sides_alike.Tie as tie
 
 abbrev Inv-loop : tie.InvT-loop
-Inv-loop out from kept count₀ i₀ count i = i ≤ 300
+Inv-loop out kept count₀ i₀ count i = i ≤ length out
 
 abbrev μ-loop : tie.MeasureT-loop
-μ-loop out from kept count₀ i₀ count i = 300 - i
+μ-loop out kept count₀ i₀ count i = length out - i
 
 loop-holds : tie.Need-loop-holds Inv-loop μ-loop
 loop-holds c = search needs
@@ -15,14 +16,8 @@ loop-holds c = search needs
 mul-short-bits : tie.Need-mul-short-bits Inv-loop μ-loop
 mul-short-bits c = search needs
 
-add-short-bits : tie.Need-add-short-bits Inv-loop μ-loop
-add-short-bits c = search needs
-
-mul-short-bits-2 : tie.Need-mul-short-bits-2 Inv-loop μ-loop
-mul-short-bits-2 c = search needs
-
-element-copy-out-short-bits : tie.Need-element-copy-out-short-bits Inv-loop μ-loop
-element-copy-out-short-bits c = search needs
+shared-slice-read-short-bits : tie.Need-shared-slice-read-short-bits Inv-loop μ-loop
+shared-slice-read-short-bits c = search needs
 
 short-bits-requires : tie.Need-short-bits-requires Inv-loop μ-loop
 short-bits-requires c κs = search needs
@@ -30,8 +25,8 @@ short-bits-requires c κs = search needs
 mul-if1 : tie.Need-mul-if1 Inv-loop μ-loop
 mul-if1 c = search needs
 
-element-copy-out-if1 : tie.Need-element-copy-out-if1 Inv-loop μ-loop
-element-copy-out-if1 c = search needs
+shared-slice-read-if1 : tie.Need-shared-slice-read-if1 Inv-loop μ-loop
+shared-slice-read-if1 c = search needs
 
 wrapping-add-u64-requires : tie.Need-wrapping-add-u64-requires Inv-loop μ-loop
 wrapping-add-u64-requires c κs = search needs
@@ -56,12 +51,10 @@ sides-alike-spec =
     μ-loop
     loop-holds
     mul-short-bits
-    add-short-bits
-    mul-short-bits-2
-    element-copy-out-short-bits
+    shared-slice-read-short-bits
     short-bits-requires
     mul-if1
-    element-copy-out-if1
+    shared-slice-read-if1
     wrapping-add-u64-requires
     add-i
     loop-less

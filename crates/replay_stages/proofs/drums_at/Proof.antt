@@ -1,25 +1,22 @@
 use Prim.Native.Nat.{_≤_, _-_}
 use borrow.Author.Needs.{needs}
-use Rattle.replay_stages.proofs.signal.Statement.{statement}
-use Rattle.replay_stages.proofs.signal.Tie as tie
+use Rattle.replay_stages.proofs.drums_at.Statement.{statement}
+use Rattle.replay_stages.proofs.drums_at.Tie as tie
 
 abbrev Inv-loop : tie.InvT-loop
-Inv-loop s₀ i₀ s i = i ≤ 300
+Inv-loop turns n on₀ i₀ on i = i ≤ 12
 
 abbrev μ-loop : tie.MeasureT-loop
-μ-loop s₀ i₀ s i = 300 - i
-
-silent-requires : tie.Need-silent-requires Inv-loop μ-loop
-silent-requires c κs = search needs
+μ-loop turns n on₀ i₀ on i = 12 - i
 
 loop-holds : tie.Need-loop-holds Inv-loop μ-loop
 loop-holds c = search needs
 
-next-requires : tie.Need-next-requires Inv-loop μ-loop
-next-requires c κs = search needs
+mul-if1 : tie.Need-mul-if1 Inv-loop μ-loop
+mul-if1 c = search needs
 
-placed-requires : tie.Need-placed-requires Inv-loop μ-loop
-placed-requires c κs = search needs
+element-copy-out-if1 : tie.Need-element-copy-out-if1 Inv-loop μ-loop
+element-copy-out-if1 c = search needs
 
 add-i : tie.Need-add-i Inv-loop μ-loop
 add-i c = search needs
@@ -33,16 +30,15 @@ loop-again c = search needs
 returns : tie.Need-returns Inv-loop μ-loop
 returns c = search needs
 
-pub signal-spec : {M : Type 1} → statement M
-signal-spec =
+pub drums-at-spec : {M : Type 1} → statement M
+drums-at-spec =
     tie.close
     (tie.spec
     Inv-loop
     μ-loop
-    silent-requires
     loop-holds
-    next-requires
-    placed-requires
+    mul-if1
+    element-copy-out-if1
     add-i
     loop-less
     loop-again
