@@ -10,7 +10,7 @@ use lib.Dec.{leb, ltb, eqb}
 use lib.ListN.{length, drop, getD, set, length-set, length-drop, length-map}
 use lib.Seq.{getD-drop, getD-set-same, getD-set-other, take-set-le, getD-take}
 use lib.Ieee.{Float}
-use borrow.Author.Tests.{leb-true, leb-false, le-leb, lt-leb, lt-ltb, le-ltb, eq-eqb, ne-eqb}
+use borrow.Author.Tests.{leb-true, leb-false, lt-leb, lt-ltb, le-ltb, eq-eqb, ne-eqb}
 use Rattle.casts.specs.Arithmetic.{_⊗_, one}
 use Rattle.stage.proofs.Laws.{Relates}
 use Rattle.sidechain.specs.declared.DuckRate.{DuckRate}
@@ -327,11 +327,7 @@ duck-fresh r kicks part few wide risen =
       marked = λ j i. absurd (omega arith);
     }
 
--- ---- refusal 4 does not decline such a duck, and what it accepts is within its list
-
-pub holds-formed : (r : DuckRate) (kicks : List ℕ) (n : ℕ) (marks : List Bool) (s : DuckIn) → DuckHolds r kicks n marks s → duckFormed s ≡ true
-unfolding duckFormed
-holds-formed r kicks n marks s h = let w = h .within in rw (le-leb _ _ (w .few), le-leb _ _ (w .reached), le-leb _ _ (w .ducking), h .kept) (h .risen)
+-- ---- what refusal 4 accepts is within its list
 
 pub formed-within : (s : DuckIn) → 2048 ≤ length (s .part) → duckFormed s ≡ true → Within s
 unfolding duckFormed
