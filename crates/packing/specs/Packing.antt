@@ -132,7 +132,7 @@ shortsFit ns = isShort (numberAt ns 0) && bothShort ns 8
 unfoldable pub wordsFit : List ℕ → Bool
 wordsFit ws = leb (wordAt ws 3) 1 && (leb (wordAt ws 4) 1 && (leb (wordAt ws 8) 1 && leb (wordAt ws 11) 1))
 
--- each tag, bool and f32 is one
+-- every tag and bool is 0 or 1, and every f32's number is an f32
 unfoldable pub unpackable : List Float → List ℕ → Bool
 unpackable ns ws = shortsFit ns && (toneFits ns (wordAt ws 1) && (padFits ns (wordAt ws 2) && wordsFit ws))
 

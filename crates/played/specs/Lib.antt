@@ -1,3 +1,3 @@
--- Lists of calls with the Rust's answers.
+-- Lists of calls and of samples, with what the Rust gave for them.
 pub mod Played
 pub mod Lists

@@ -1,4 +1,4 @@
--- Lists of calls, and what the Rust answered to them. Made by harness/vectors: no line here was written by hand.
+-- Lists of calls and of samples, and what the Rust gave for them. Made by harness/vectors: no line here was written by hand.
 use mathlib.Core.Bool.{true, false}
 use mathlib.Core.List.{List, [], _∷_, _++_}
 use Rattle.automation.specs.declared.Tone.the-variants.{Fixed, Graded}

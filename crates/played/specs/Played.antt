@@ -24,7 +24,7 @@ room k = replicate k nought
 abbrev pub counts : ℕ → List ℕ
 counts k = replicate k 0
 
--- calls, and what the strip answered
+-- calls, and what the Rust answered
 pub record Played : Type 0 where
   pub rate : ℕ
   pub setup : Setup

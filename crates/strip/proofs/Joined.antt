@@ -20,7 +20,7 @@ use Rattle.strip.specs.declared.Opened as opened
 use Rattle.strip.specs.Refusals.{furthest, okUnit, okOutputs, okEnd, okSamples, okControls, runRefusal, latchRefusal, openRefusal}
 use Rattle.strip.specs.Machine.{Machine, Event, sample, fresh, stepped, latched, fed, fedAll, delivers, heardFrom}
 use Rattle.strip.specs.Calls.{State, state, openedState, OpenDone, openCall, runCall, latchCall, restCall}
-use Rattle.strip.specs.Promise.{Call, run, move, ask, declined, answerTo, after, through, refusal, eventsOf, feeds, accepted, says, expected, framesIn, countsIn, joinedFrames, joinedCounts, takes, joinedEvents}
+use Rattle.strip.specs.Promise.{Call, run, move, ask, declined, answerTo, after, through, refusal, eventsOf, feeds, accepted, says, expected, framesOf, countsOf, joinedFrames, joinedCounts, takes, joinedEvents}
 use Rattle.strip.proofs.Opening.{passed, opens, open-stands}
 use Rattle.strip.proofs.Related.{Stands, none-first, run-stands, run-heard, latch-stands, same-rest}
 
@@ -164,8 +164,8 @@ run-position r (x ∷ xs) d m = run-position r xs d (fed r m (sample x d)) ∙ o
 -- what one call feeds the machine: where it then stands, and what it delivers
 record Delivers (r : Rate) (m : Machine) (c : Call) : Type 0 where
   position : fedAll r m (feeds (m .position) c) .position ≡ takes (m .position) c
-  frames : framesIn (says r m c) ≡ framesOut (heardFrom r m (feeds (m .position) c))
-  counts : countsIn (says r m c) ≡ countsOut (heardFrom r m (feeds (m .position) c))
+  frames : framesOf (says r m c) ≡ framesOut (heardFrom r m (feeds (m .position) c))
+  counts : countsOf (says r m c) ≡ countsOut (heardFrom r m (feeds (m .position) c))
 
 run-delivers : (r : Rate) (m : Machine) (xs : List Float) (d : Bool) (frames : List Float) (gains : List ℕ) (b : Bool)
     → eqb (runRefusal (m .position) xs (length frames) (length gains)) 0 ≡ b → Delivers r m (run xs d frames gains)

@@ -108,25 +108,25 @@ expected r m (c ∷ cs) = says r m c ∷ expected r (fedAll r m (feeds (m .posit
 
 -- ---- joined frames and counts
 
-abbrev pub framesIn : Answer → List Float
-framesIn (ran frames gains) = frames
-framesIn moved = []
-framesIn (rests b) = []
-framesIn (declined k) = []
+abbrev pub framesOf : Answer → List Float
+framesOf (ran frames gains) = frames
+framesOf moved = []
+framesOf (rests b) = []
+framesOf (declined k) = []
 
-abbrev pub countsIn : Answer → List ℕ
-countsIn (ran frames gains) = gains
-countsIn moved = []
-countsIn (rests b) = []
-countsIn (declined k) = []
+abbrev pub countsOf : Answer → List ℕ
+countsOf (ran frames gains) = gains
+countsOf moved = []
+countsOf (rests b) = []
+countsOf (declined k) = []
 
 unfoldable pub joinedFrames : List Answer → List Float
 joinedFrames [] = []
-joinedFrames (a ∷ l) = framesIn a ++ joinedFrames l
+joinedFrames (a ∷ l) = framesOf a ++ joinedFrames l
 
 unfoldable pub joinedCounts : List Answer → List ℕ
 joinedCounts [] = []
-joinedCounts (a ∷ l) = countsIn a ++ joinedCounts l
+joinedCounts (a ∷ l) = countsOf a ++ joinedCounts l
 
 -- the joined samples, with each accepted latch at its position: what the calls feed the machine, which the positions alone pick out
 unfoldable pub takes : ℕ → Call → ℕ
@@ -150,7 +150,7 @@ unfoldable pub mixedFrom : Rate → Machine → List Event → List Frame
 mixedFrom r m [] = []
 mixedFrom r m (e ∷ es) = mixes r m e ++ mixedFrom r (fed r m e) es
 
--- "a delivered frame's need is that of the frame 220 back which it comes from": of the frame delivered i-th, where i is 220 or more
+-- "a delivered frame's need is that of the frame 220 back which it comes from": of the frame delivered i-th, counted from 0, where i is 220 or more
 unfoldable pub deliveredNeed : Rate → List Frame → ℕ → Float
 deliveredNeed r frames i = needOf (r .ceiling) (getD frames (i - r .ceiling .ahead) silence)
 
