@@ -27,8 +27,8 @@ use Rattle.master.specs.Kept.{framesOut, countsOut}
 use Rattle.part.specs.Pieces.{went}
 use Rattle.strip.specs.Calls.{State, state, stepOn, ranOn, heardOn, first, restingOn, OpenDone, RunDone, openedStrip, openedState, openCall, runCall, latchedStrip, latchCall, restCall}
 use Rattle.strip.specs.Machine.{fresh}
-use Rattle.strip.specs.Promise.{ask, Answer, stripOf, restStrip, runAnswer, moveAnswer, restAnswer, answerTo, after, through, expected}
-use Rattle.strip.proofs.Joined.{answered}
+use Rattle.strip.specs.Promise.{Answer, stripOf, runAnswer, moveAnswer, restAnswer, answerTo, after, through, expected}
+use Rattle.strip.proofs.Joined.{rest-leaves, answered}
 use Rattle.strip.proofs.Demand3.{joined-of}
 use Rattle.packing.specs.declared.Unpacked as unpack
 use Rattle.packing.specs.Packing.{packedNumbers, packedWords, roomy, unpacked}
@@ -135,15 +135,6 @@ rest-said : (a : Rested) → Refuses a → (was : ℕ) → restSays (restedBack 
 unfolding restSays restedBack
 rest-said (rested.the-variants.Rests b) k was = rw (flag-is b)
 rest-said (rested.the-variants.Declined n s) k was = rw k
-
--- rest changes nothing: declined, it hands back the strip that it was lent
-rest-strip : (s : strips.Strip) (b c : Bool) (k : ℕ) → restStrip s (cond c (rested.the-variants.Rests b) (rested.the-variants.Declined k s)) ≡ s
-rest-strip s b true k = refl
-rest-strip s b false k = refl
-
-rest-leaves : (r : Rate) (st : State) → after r st ask ≡ st
-unfolding after restCall
-rest-leaves r st = ap (λ (s : strips.Strip). state s (st .store) (st .counts)) (rest-strip (st .strip) (restingOn r st) (eqb (first r st 0) 0) (first r st 0))
 
 -- ---- one call
 

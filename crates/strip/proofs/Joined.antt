@@ -17,10 +17,11 @@ use Rattle.strip.specs.declared.Setup.{Setup}
 use Rattle.strip.specs.declared.Controls.{Controls}
 use Rattle.strip.specs.declared.Strip.{Strip}
 use Rattle.strip.specs.declared.Opened as opened
+use Rattle.strip.specs.declared.Rested as rested
 use Rattle.strip.specs.Refusals.{furthest, okUnit, okOutputs, okEnd, okSamples, okControls, runRefusal, latchRefusal, openRefusal}
 use Rattle.strip.specs.Machine.{Machine, Event, sample, fresh, stepped, latched, fed, fedAll, delivers, heardFrom}
-use Rattle.strip.specs.Calls.{State, state, openedState, OpenDone, openCall, runCall, latchCall, restCall}
-use Rattle.strip.specs.Promise.{Call, run, move, ask, declined, answerTo, after, through, refusal, eventsOf, feeds, accepted, says, expected, framesOf, countsOf, joinedFrames, joinedCounts, takes, joinedEvents}
+use Rattle.strip.specs.Calls.{State, state, first, restingOn, openedState, OpenDone, openCall, runCall, latchCall, restCall}
+use Rattle.strip.specs.Promise.{Call, run, move, ask, declined, restStrip, answerTo, after, through, refusal, eventsOf, feeds, accepted, says, expected, framesOf, countsOf, joinedFrames, joinedCounts, takes, joinedEvents}
 use Rattle.strip.proofs.Opening.{passed, opens, open-stands}
 use Rattle.strip.proofs.Related.{Stands, none-first, run-stands, run-heard, latch-stands, same-rest}
 
@@ -41,6 +42,15 @@ latch-room c e =
     let d = and-eq-true-iff (okUnit (c .rain)) _ .0 (b .1) in
     let f = and-eq-true-iff (leb (c .grading) furthest) _ .0 (d .1) in
     (leb-true _ _ (f .0), leb-true _ _ (f .1))
+
+-- rest changes nothing: declined, it hands back the strip that it was lent
+pub rest-leaves : (r : Rate) (st : State) → after r st ask ≡ st
+unfolding after restCall
+rest-leaves r st = ap (λ (s : Strip). state s (st .store) (st .counts)) (go (eqb (first r st 0) 0))
+  where
+    go : (b : Bool) → restStrip (st .strip) (cond b (rested.the-variants.Rests (restingOn r st)) (rested.the-variants.Declined (first r st 0) (st .strip))) ≡ st .strip
+    go true = refl
+    go false = refl
 
 pub record Same (r : Rate) (m : Machine) (st : State) (c : Call) : Type 0 where
   pub answer : answerTo r st c ≡ says r m c
@@ -81,8 +91,8 @@ module _ (r : Rate) (u : RateUsable r) (m : Machine) (st : State) (g : Stands r 
       }
 
   by-ask : Same r m st ask
-  unfolding answerTo after restCall says feeds refusal accepted eventsOf fedAll
-  by-ask = record { answer = rw (none-first r u m st g 0, same-rest r u m st g); stands = rw (none-first r u m st g 0) g }
+  unfolding answerTo restCall says feeds refusal accepted eventsOf fedAll
+  by-ask = record { answer = rw (none-first r u m st g 0, same-rest r u m st g); stands = subst⁻¹ (Stands r m) (rest-leaves r st) g }
 
   pub one-call : (c : Call) → Same r m st c
   one-call (run xs d frames gains) = by-run xs d frames gains (eqb (runRefusal (m .position) xs (length frames) (length gains)) 0) refl
