@@ -5,6 +5,7 @@ pub mod Exact
 pub mod Widening
 mod Rounded
 mod Closest
+pub mod Error
 mod Narrowing
 mod Inplace
 mod Cases

@@ -1,37 +1,20 @@
 -- Rounding keeps the order: of a number that is finite and not negative, the quotient falls as the divisor grows; a sum grows with its second part, and is never below its first. A square has no sign. Assumes nothing.
 use mathlib.Core.Path.{_≡_, refl, sym, subst}
 use mathlib.Core.Bool.{Bool, true, false, not, cond, Bool·beq}
-use Prim.Native.Nat.{ℕ, zero, suc, _+_, _*_, _^_, _≤_, zero-le}
+use Prim.Native.Nat.{ℕ, _+_, _*_, _≤_, zero-le}
 use native.Mathlib.Nat.{le-trans, le-of-eq, mul-pos, mul-comm, mul-assoc, mul-left-comm, mul-one, zero-mul, add-mul, add-le-add, mul-le-mul-right}
 use native.Mathlib.Omega.{arith}
 use lib.Dec.{T, ltb, eqb, ltb→lt, eqb→eq}
 use lib.IntN.{ℤ, pos}
-use lib.Ieee.{Float, nan, inf, fin, Format, binary64, prec, emax, low, unlike, up, down, odd, units, round, add, mul, div, le, fits, isNan}
+use lib.Ieee.{Float, nan, inf, fin, binary64, unlike, up, down, round, add, mul, div, le, fits, isNan}
 use lib.Ieee.Fits.{up-pos, down-pos}
 use lib.Ieee.Order.{round-mono}
 use lib.Ieee.Positive.{above}
 use Rattle.casts.specs.Arithmetic.{_⊕_, _⊗_, _⊘_}
 use Rattle.casts.specs.Order.{le-cross, says-le}
 use Rattle.casts.specs.Same.{unsigned}
+use Rattle.casts.proofs.Error.{round-unsigned}
 use Rattle.casts.proofs.Exact.{round-own}
-
--- ---- no sign comes out of a rounding
-odd-unsigned : (d q k l : ℕ) → T (unsigned (odd d false q k l))
-unfolding odd
-odd-unsigned d zero k l = tt
-odd-unsigned d (suc q) k l = tt
-
-cond-unsigned : (b : Bool) (x y : Float) → T (unsigned x) → T (unsigned y) → T (unsigned (cond b x y))
-cond-unsigned true x y p q = p
-cond-unsigned false x y p q = q
-
-units-unsigned : (f : Format) (q k : ℕ) → T (unsigned (units f false q k))
-unfolding units
-units-unsigned f q k = cond-unsigned (ltb (q * 2 ^ k) (2 ^ (low f + suc (emax f)))) (odd (suc (prec f)) false q k (low f)) (inf false) (odd-unsigned (suc (prec f)) q k (low f)) tt
-
-pub round-unsigned : (f : Format) (a c : ℕ) → T (unsigned (round f false a c))
-unfolding round
-round-unsigned f a c = units-unsigned f _ _
 
 zero-least : (x : Float) → T (unsigned x) → T (le (fin false 0 (pos 0)) x)
 unfolding le

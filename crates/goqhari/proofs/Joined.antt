@@ -36,7 +36,7 @@ use Rattle.packing.specs.Inverse.{Single, ToneSingle, PadSingle, Singles}
 use Rattle.packing.proofs.Inverse.{inverse, flag-is}
 use Rattle.setup.specs.Setup.{numberAt, setupOf, toneOf, padOf, tapeSetupOf}
 use Rattle.goqhari.specs.Library.{Back, back, packedBack, openedBack, outcomeBack, declinedBy, Opening, opening, openDone, libraryOpen, drumming, running, runDone, runFrom, libraryRun, latchFrom, libraryLatch, restedBack, restFrom, libraryRest}
-use Rattle.goqhari.specs.Promise.{LibraryCall, run, latch, rest, callOf, Lent, lent, runSays, latchSays, restSays, answerOf, runLeaves, leftBy, answersOf, openLeaves, LibraryJoinedAt, LibraryDemand3}
+use Rattle.goqhari.specs.Promise.{LibraryCall, run, latch, rest, callOf, Lent, lent, runSays, latchSays, restSays, answerOf, runLeaves, leftBy, answersOf, openLeaves, EveryLibraryList, LibraryJoinedAt, LibraryDemand3}
 
 -- ---- what an outcome is: a refusal's number is not 0 and hands the strip back; else the setup is kept
 
@@ -269,9 +269,7 @@ module _ (r : Rate) (s : Setup) (l : Lists) (ns : List Float) (ws : List ℕ) (s
   opens-by true false z = absurd (declined-not (longEnough r store counts) z)
   opens-by false b z = let y : _≡_ {A = ℕ} 1 0 = z in absurd (omega (arith, y))
 
-library-answers : (r : Rate) → RateUsable r → (singles doubles : List Float) (flags : ℕ) (l : Lists) (ns : List Float) (ws : List ℕ) (store : List Float) (counts : List ℕ)
-    → ((k : ℕ) → Single (numberAt singles k)) → libraryOpen r singles doubles flags l ns ws store counts .back .answer ≡ 0
-    → (cs : List LibraryCall) → answersOf r (openLeaves (libraryOpen r singles doubles flags l ns ws store counts)) cs ≡ expected r (fresh r (setupOf singles doubles flags) l) (map callOf cs)
+pub library-answers : (r : Rate) → RateUsable r → EveryLibraryList r (λ s l cs answers. answers ≡ expected r (fresh r s l) cs)
 unfolding libraryOpen
 library-answers r u singles doubles flags l ns ws store counts f z cs =
     let s = setupOf singles doubles flags in

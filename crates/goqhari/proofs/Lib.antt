@@ -1,3 +1,4 @@
 -- How each call ends; a list of calls.
 pub mod Ends
 pub mod Joined
+pub mod SheetValue

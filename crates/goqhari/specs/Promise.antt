@@ -10,6 +10,7 @@ use lib.Ieee.{Float}
 use Rattle.rate.specs.declared.Rate.{Rate}
 use Rattle.rate.specs.Rate.{rateOf}
 use Rattle.tape.specs.Tape.{Lists}
+use Rattle.strip.specs.declared.Setup.{Setup}
 use Rattle.strip.specs.declared.Controls.{Controls}
 use Rattle.strip.specs.Promise as promise
 use Rattle.strip.specs.Promise.{Call, Answer, ran, moved, rests, declined, Joined}
@@ -76,13 +77,16 @@ openLeaves o = lent (o .back .numbers) (o .back .words) (o .store) (o .counts)
 
 -- ---- the claim
 
--- "A list of calls starts with the strip and stores just as open left them". `singles` holds f32s, as its type says.
-unfoldable pub LibraryJoinedAt : Rate → Type 0
-LibraryJoinedAt r =
+-- P of every list of calls and the answers to it: "A list of calls starts with the strip and stores just as open left them". `singles` holds f32s, as its type says.
+abbrev pub EveryLibraryList : Rate → (Setup → Lists → List Call → List Answer → Type 0) → Type 0
+EveryLibraryList r P =
     (singles doubles : List Float) (flags : ℕ) (l : Lists) (ns : List Float) (ws : List ℕ) (store : List Float) (counts : List ℕ)
     → ((k : ℕ) → Single (numberAt singles k))
     → libraryOpen r singles doubles flags l ns ws store counts .back .answer ≡ 0
-    → (cs : List LibraryCall) → Joined r (setupOf singles doubles flags) l (map callOf cs) (answersOf r (openLeaves (libraryOpen r singles doubles flags l ns ws store counts)) cs)
+    → (cs : List LibraryCall) → P (setupOf singles doubles flags) l (map callOf cs) (answersOf r (openLeaves (libraryOpen r singles doubles flags l ns ws store counts)) cs)
+
+unfoldable pub LibraryJoinedAt : Rate → Type 0
+LibraryJoinedAt r = EveryLibraryList r (Joined r)
 
 -- DEMAND 3 for C, at the rate that is sold: for every setup, lists and memory with which goqhari_open answers 0, and for every list of calls
 pub record LibraryDemand3 : Type 0 where

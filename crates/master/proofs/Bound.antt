@@ -20,8 +20,8 @@ use Rattle.casts.specs.Order.{le-says, le-trans-any, le-refl-any, le-total-any,
 use Rattle.casts.specs.Least.{minF, min-left}
 use Rattle.casts.specs.Step.{stepOf, step-mono}
 use Rattle.casts.specs.Arithmetic.{_⊗_, nought, one}
+use Rattle.stage.specs.Stage.{All}
 use Rattle.rate.specs.Ceiling.{unit, plain, Usable}
-use Rattle.master.proofs.Window.{All}
 use Rattle.rate.specs.declared.CeilingRate.{CeilingRate}
 use Rattle.stream.specs.declared.Frame.{Frame}
 use Rattle.master.specs.Ceiling.{silence, peakOf, needFor, needOf, least, leastOf, heldOf, lastOf, total, CeilingMachine, freshMachine, releasedOf, taken}

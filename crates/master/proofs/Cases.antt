@@ -9,7 +9,7 @@ use Rattle.rate.specs.declared.CeilingRate.{CeilingRate}
 use Rattle.rate.specs.Ceiling.{ceilingRate}
 use Rattle.rate.proofs.Ceiling.{ceiling-44100}
 use Rattle.stream.specs.declared.Frame.{Frame}
-use Rattle.master.specs.Ceiling.{silence, sizeOf, largerOf, peakOf, needFor, needOf, least, leastOf, heldOf, lastOf, total, releasedOf, taken, countOf, deliver, delivered, ceilingStep, freshMachine}
+use Rattle.master.specs.Ceiling.{silence, sizeOf, largerOf, peakOf, needFor, needOf, least, leastOf, heldOf, lastOf, total, releasedOf, taken, countOf, multiplied, multipliedStep, delivered, ceilingStep, freshMachine}
 
 abbrev frame : Float → Float → Frame
 frame a b = record { left = a; right = b }
@@ -27,5 +27,5 @@ abbrev pub firstCount : CeilingRate → Frame → ℕ
 firstCount r f = ceilingStep r 0 freshMachine f .out .count
 
 pub case-k : map (firstCount (ceilingRate 44100)) (silence ∷ frame (two ⊗ ceilingRate 44100 .limit) nought ∷ []) ≡ 242992069738496 ∷ 242442313924608 ∷ []
-unfolding needOf needFor peakOf largerOf sizeOf least leastOf heldOf releasedOf lastOf total taken countOf deliver delivered ceilingStep stepOf mul div lt le neg isNan ofBits round toUnsigned
+unfolding needOf needFor peakOf largerOf sizeOf least leastOf heldOf releasedOf lastOf total taken countOf multiplied multipliedStep delivered ceilingStep stepOf mul div lt le neg isNan ofBits round toUnsigned
 case-k = rw ceiling-44100

@@ -13,14 +13,14 @@ use Rattle.rate.specs.declared.CeilingRate.{CeilingRate}
 use Rattle.rate.specs.Ceiling.{Usable}
 use Rattle.stream.specs.declared.Frame.{Frame}
 use Rattle.master.specs.declared.Heard.{Heard}
-use Rattle.master.specs.Ceiling.{silence, needOf, taken, freshMachine, countOf, lateOf, deliver, delivered, ceilingStep}
+use Rattle.master.specs.Ceiling.{silence, needOf, CeilingMachine, taken, freshMachine, countOf, lateOf, multiplied, multipliedStep, delivered, ceilingStep}
 use Rattle.master.specs.Kept.{CeilingIn, ceilingStepOn}
 use Rattle.master.proofs.Window.{le-or-lt}
 use Rattle.master.proofs.Bound.{after, steps-bound}
 use Rattle.master.proofs.Refines.{Fresh, same-heard}
 
 module _ (r : CeilingRate) (sound : Usable r) where
-  frames-are : (h : List Frame) → after r h .frames ≡ h
+  pub frames-are : (h : List Frame) → after r h .frames ≡ h
   unfolding after taken
   frames-are [] = refl
   frames-are (f ∷ h) = ap (λ l. f ∷ l) (frames-are h)
@@ -80,8 +80,11 @@ back (f ∷ fs) h (suc i) a d l k = elim (le-or-lt a i) [ inl b ↦ inside b (ba
         none i a b k = omega arith
 
 -- what is delivered at the frame i is what the machine delivers after the first suc i
-at-frame : (r : CeilingRate) (n : ℕ) (h fs : List Frame) (i : ℕ) (d : Heard) → i < length fs → getD (outs (ceilingStep r) n (after r h) fs) i d ≡ delivered r (after r (onto (take (suc i) fs) h))
-unfolding outs ceilingStep onto after
+abbrev deliveredAfter : CeilingRate → CeilingMachine → Heard
+deliveredAfter r m = delivered r (multiplied r (countOf r m) (lateOf r m))
+
+at-frame : (r : CeilingRate) (n : ℕ) (h fs : List Frame) (i : ℕ) (d : Heard) → i < length fs → getD (outs (ceilingStep r) n (after r h) fs) i d ≡ deliveredAfter r (after r (onto (take (suc i) fs) h))
+unfolding outs ceilingStep multipliedStep onto after
 at-frame r n h [] i d l = absurd (not-suc-le-zero l)
 at-frame r n h (f ∷ fs) zero d l = refl
 at-frame r n h (f ∷ fs) (suc i) d l = at-frame r (n + 1) (f ∷ h) fs i d (le-of-suc-le-suc l)
@@ -98,7 +101,7 @@ module _ (r : CeilingRate) (usable : Usable r) (fs : List Frame) (i : ℕ) (d : 
   frame-is = ap (λ (l : List Frame). getD l (r .ahead) silence) (frames-are r usable past) ∙ back fs [] i (r .ahead) silence within late
 
   count-at : getD (outs (ceilingStep r) 0 freshMachine fs) i d .count ≡ countOf r (after r past)
-  unfolding after delivered deliver
+  unfolding after multiplied delivered
   count-at = ap (λ (x : Heard). x .count) (at-frame r 0 [] fs i d within)
 
   -- THE GAIN BOUND: at every frame i of a list, from the one with number `ahead` on, the count is at most ahead + 1 times the step of the need of the frame `ahead` before,

@@ -15,7 +15,7 @@ use Rattle.casts.specs.Cast.{narrowed}
 use Rattle.rate.specs.declared.CeilingRate.{CeilingRate}
 use Rattle.stream.specs.declared.Frame.{Frame}
 use Rattle.master.specs.declared.Heard.{Heard}
-use Rattle.master.specs.Ceiling.{sizeOf, largerOf, peakOf, needFor, needOf, gainOf, clamped, played, deliver}
+use Rattle.master.specs.Ceiling.{sizeOf, largerOf, peakOf, needFor, needOf, gainOf, multiplied, clamped, delivered}
 use Rattle.master.specs.Kept.{countDown, drops}
 use Rattle.master.proofs.Window.{le-or-lt}
 
@@ -95,8 +95,8 @@ module _ (limit x y : Float) (e : y ≡ narrowed x) where
   clamp-else h k = rw (← e, h, k)
 
 pub play-is : (r : CeilingRate) (count : ℕ) (late : Frame) (g a b : Float) → g ≡ gainOf r count → a ≡ clamped (r .limit) (narrowed (late .left ⊗ g)) → b ≡ clamped (r .limit) (narrowed (late .right ⊗ g))
-    → _≡_ {A = Heard} (record { left = a; right = b; count = count }) (deliver r count late)
-unfolding deliver played
+    → _≡_ {A = Heard} (record { left = a; right = b; count = count }) (delivered r (multiplied r count late))
+unfolding delivered multiplied
 play-is r count late g a b eg ea eb = rw (ea, eb, eg)
 
 -- ---- a place in a ring

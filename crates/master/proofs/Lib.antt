@@ -7,6 +7,11 @@ pub mod Stays
 pub mod Refines
 pub mod Delivered
 pub mod Opening
+pub mod Sizes
+pub mod Under
+pub mod Peak
+pub mod Side
+pub mod SheetValue
 pub mod Cases
 pub mod Laws
 pub mod Checking

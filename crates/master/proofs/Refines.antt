@@ -13,12 +13,12 @@ use Rattle.casts.specs.Order.{le-trans-any}
 use Rattle.casts.specs.Least.{minF}
 use Rattle.casts.specs.Step.{stepOf}
 use Rattle.stage.specs.Stage.{outs}
-use Rattle.stage.proofs.Laws.{Relates, related-outs}
+use Rattle.stage.proofs.Laws.{Relates, related-outs, relates-mapped}
 use Rattle.rate.specs.declared.CeilingRate.{CeilingRate}
 use Rattle.rate.specs.Ceiling.{unit, Usable}
 use Rattle.stream.specs.declared.Frame.{Frame}
-use Rattle.master.specs.Ceiling.{silence, needOf, least, leastOf, heldOf, lastOf, total, CeilingMachine, freshMachine, releasedOf, taken, countOf, lateOf, deliver, delivered, ceilingStep}
-use Rattle.master.specs.Kept.{CeilingIn, placesOf, staying, slot, needsAfter, numbersAfter, headAfter, lenAfter, releasedAfter, stepPlace, latePlace, lateAt, ceilingStepOn}
+use Rattle.master.specs.Ceiling.{silence, needOf, least, leastOf, heldOf, lastOf, total, CeilingMachine, freshMachine, releasedOf, taken, countOf, lateOf, multiplied, multipliedStep, delivered, ceilingStep}
+use Rattle.master.specs.Kept.{CeilingIn, placesOf, staying, slot, needsAfter, numbersAfter, headAfter, lenAfter, releasedAfter, stepPlace, latePlace, lateAt, multipliedStepOn, ceilingStepOn}
 use Rattle.master.specs.WellFormed.{Sized}
 use Rattle.master.proofs.Rings.{place, Rings, ring-oldest, ring-push, Queued}
 use Rattle.master.proofs.Sliding.{queueOf, Turned, turned}
@@ -149,14 +149,14 @@ module _ (r : CeilingRate) (n : ℕ) (p : CeilingMachine) (k : CeilingIn) (f : F
       ∙ ring-oldest (lateAt (placesOf r) (k .samples)) (r .ahead) silence (p .frames) a e (holds .late)
       ∙ ap (λ (m : ℕ). getD (f ∷ p .frames) m silence) (sym e)
 
-  pub stepped-heard : ceilingStepOn r n k f .out ≡ delivered r (taken r p f)
-  unfolding ceilingStepOn delivered
-  stepped-heard =
-      ap (λ (c : ℕ). deliver r c (lateAt (placesOf r) (needsAfter r k (needOf r f)) (n % r .ahead))) count-is
-      ∙ ap (deliver r (countOf r (taken r p f))) late-is
+  pub stepped-multiplied : multipliedStepOn r n k f .out ≡ multiplied r (countOf r (taken r p f)) (lateOf r (taken r p f))
+  unfolding multipliedStepOn
+  stepped-multiplied =
+      ap (λ (c : ℕ). multiplied r c (lateAt (placesOf r) (needsAfter r k (needOf r f)) (n % r .ahead))) count-is
+      ∙ ap (multiplied r (countOf r (taken r p f))) late-is
 
-  pub stepped-holds : Holds r (n + 1) (taken r p f) (ceilingStepOn r n k f .next)
-  unfolding ceilingStepOn taken
+  pub stepped-holds : Holds r (n + 1) (taken r p f) (multipliedStepOn r n k f .next)
+  unfolding multipliedStepOn taken
   stepped-holds =
       let P = placesOf r in
       let counts = numbersAfter r n k (needOf r f) in
@@ -244,17 +244,24 @@ module _ (r : CeilingRate) (usable : Usable r) where
             frames (g .late (2 * m) (omega arith)) (ap (λ (x : ℕ). getD (k .samples) x nan) (add-assoc (placesOf r) (2 * m) 1) ∙ g .late (2 * m + 1) (omega arith));
       }
 
-  -- a frame is delivered as the machine's, and what is then kept holds the machine's past
-  pub ceiling-relates : Relates (Holds r) (ceilingStep r) (ceilingStepOn r)
-  unfolding ceilingStep
-  ceiling-relates =
+  -- a frame is multiplied, and delivered, as the machine's, and what is then kept holds the machine's past
+  pub multiplied-relates : Relates (Holds r) (multipliedStep r) (multipliedStepOn r)
+  unfolding multipliedStep
+  multiplied-relates =
       let w = r .window - 1 in
       let wide : r .window ≡ suc w = omega (arith, usable .window-long) in
       record {
         keeps = λ n p k f holds. stepped-holds r n p k f w wide (usable .ahead-pos) holds;
-        same = λ n p k f holds. sym (stepped-heard r n p k f w wide (usable .ahead-pos) holds);
+        same = λ n p k f holds. sym (stepped-multiplied r n p k f w wide (usable .ahead-pos) holds);
       }
 
-  -- THE THEOREM: from a fresh ceiling, for every list of frames, the frames and gain counts are the machine's
+  pub ceiling-relates : Relates (Holds r) (ceilingStep r) (ceilingStepOn r)
+  unfolding ceilingStep ceilingStepOn
+  ceiling-relates = relates-mapped (Holds r) (multipliedStep r) (multipliedStepOn r) (delivered r) multiplied-relates
+
+  -- THE THEOREM: from a fresh ceiling, for every list of frames, the sides before narrowing and clamping, the frames and the gain counts are the machine's
+  pub same-multiplied : (k : CeilingIn) → Fresh r k → (fs : List Frame) → outs (multipliedStepOn r) 0 k fs ≡ outs (multipliedStep r) 0 freshMachine fs
+  same-multiplied k g fs = sym (related-outs (Holds r) (multipliedStep r) (multipliedStepOn r) multiplied-relates 0 freshMachine k fs (fresh-holds k g))
+
   pub same-heard : (k : CeilingIn) → Fresh r k → (fs : List Frame) → outs (ceilingStepOn r) 0 k fs ≡ outs (ceilingStep r) 0 freshMachine fs
   same-heard k g fs = sym (related-outs (Holds r) (ceilingStep r) (ceilingStepOn r) ceiling-relates 0 freshMachine k fs (fresh-holds k g))

@@ -10,9 +10,10 @@ use native.Mathlib.Omega.{arith}
 use lib.Dec.{T, leb}
 use lib.ListN.{length, getD, take}
 use borrow.Author.Tests.{le-leb, lt-leb, le-ltb}
+use Rattle.stage.specs.Stage.{All}
 use Rattle.master.specs.Ceiling.{least}
 use Rattle.master.specs.Kept.{popLen, drops}
-use Rattle.master.proofs.Window.{stairs, stack, popped, cut, lastFrom, All, last-least, turn}
+use Rattle.master.proofs.Window.{stairs, stack, popped, cut, lastFrom, last-least, turn}
 use Rattle.master.proofs.Rings.{Queued, pops, pushes, oldest, cut-length, cut-queued, cut-young}
 
 -- each value of a past with its number: how many came before it

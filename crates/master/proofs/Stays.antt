@@ -20,7 +20,7 @@ use Rattle.rate.specs.declared.CeilingRate.{CeilingRate}
 use Rattle.rate.specs.Ceiling.{unit, Usable}
 use Rattle.stream.specs.declared.Frame.{Frame}
 use Rattle.master.specs.Ceiling.{needOf, peakOf}
-use Rattle.master.specs.Kept.{CeilingIn, placesOf, countDown, staying, slot, needsAfter, numbersAfter, drops, dropped, headAfter, lenAfter, releasedAfter, stepPlace, latePlace, ceilingStepOn}
+use Rattle.master.specs.Kept.{CeilingIn, placesOf, countDown, staying, slot, needsAfter, numbersAfter, drops, dropped, headAfter, lenAfter, releasedAfter, stepPlace, latePlace, multipliedStepOn, ceilingStepOn}
 use Rattle.master.specs.WellFormed.{sumAt, wellFormed, Sized}
 use Rattle.master.proofs.Bound.{Gain, need-gain, rises}
 use Rattle.master.proofs.Ready.{Ready, ready-of, of-ready}
@@ -243,7 +243,7 @@ need-small r f usable = need-gain (r .limit) (peakOf f) (usable .limit-plain)
 -- a step keeps what the next one asks
 module _ (r : CeilingRate) (usable : Usable r) where
   pub ready-next : (n : ℕ) (k : CeilingIn) (f : Frame) → Ready r k → Ready r (ceilingStepOn r n k f .next)
-  unfolding ceilingStepOn
+  unfolding ceilingStepOn multipliedStepOn
   ready-next n k f ready =
       let need = needOf r f in
       let small : Gain need = need-small r f usable in
@@ -281,6 +281,6 @@ module _ (r : CeilingRate) (usable : Usable r) where
 -- a block leaves the parts of the stores as long as they were
 pub ran-lengths : (r : CeilingRate) (n : ℕ) (k : CeilingIn) (fs : List Frame)
     → (length (ran (ceilingStepOn r) n k fs .samples) ≡ length (k .samples)) × (length (ran (ceilingStepOn r) n k fs .counts) ≡ length (k .counts))
-unfolding ran ceilingStepOn
+unfolding ran ceilingStepOn multipliedStepOn
 ran-lengths r n k [] = (refl, refl)
 ran-lengths r n k (f ∷ fs) = let e = ran-lengths r (n + 1) (ceilingStepOn r n k f .next) fs in (e .0 ∙ simp length-set, e .1 ∙ simp length-set)

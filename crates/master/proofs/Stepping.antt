@@ -12,8 +12,8 @@ use Rattle.rate.specs.declared.CeilingRate.{CeilingRate}
 use Rattle.rate.specs.Ceiling.{Usable}
 use Rattle.stream.specs.declared.Frame.{Frame}
 use Rattle.master.specs.declared.Heard.{Heard}
-use Rattle.master.specs.Ceiling.{needOf, deliver}
-use Rattle.master.specs.Kept.{CeilingIn, placesOf, needsAfter, numbersAfter, headAfter, lenAfter, releasedAfter, stepPlace, latePlace, lateAt, gave, ceilingStepOn}
+use Rattle.master.specs.Ceiling.{needOf, multiplied, delivered}
+use Rattle.master.specs.Kept.{CeilingIn, placesOf, needsAfter, numbersAfter, headAfter, lenAfter, releasedAfter, stepPlace, latePlace, lateAt, gave, multipliedStepOn, ceilingStepOn}
 use Rattle.master.proofs.Bound.{Gain}
 use Rattle.master.proofs.Ready.{Ready}
 use Rattle.master.proofs.Stays.{need-small, head-lt, step-small, oldest-le, count-le, step-place, late-place}
@@ -59,8 +59,8 @@ module _ (r : CeilingRate) (n : ℕ) (k : CeilingIn) (f : Frame) (need : Float) 
       → count ≡ k .ceiling .count - getD counts (stepPlace r n) 0 + s → counts₂ ≡ set counts (stepPlace r n) s
       → late ≡ lateAt (placesOf r) samples (n % r .ahead)
       → samples₂ ≡ set (set samples (latePlace r n) (f .left)) (latePlace r n + 1) (f .right)
-      → heard ≡ deliver r count late
+      → heard ≡ delivered r (multiplied r count late)
       → gave (record { released = x; count = count; head = head; len = len }) samples₂ counts₂ heard ≡ ceilingStepOn r n k f
-  unfolding ceilingStepOn releasedAfter
+  unfolding ceilingStepOn multipliedStepOn releasedAfter
   together x s count late heard samples₂ counts₂ ex e-s e-count e-counts e-late e-samples e-heard =
       rw (e-heard, e-samples, e-counts, e-late, e-count, e-s, ex, e .head-is, e .len-is, e .samples-are, e .counts-are, need-is) refl

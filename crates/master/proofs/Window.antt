@@ -10,6 +10,7 @@ use native.Mathlib.Omega.{arith}
 use lib.Dec.{T, leb, leb→le, nleb→lt}
 use lib.ListN.{length, getD, take}
 use lib.Seq.{take-suc, take-all}
+use Rattle.stage.specs.Stage.{All}
 use Rattle.master.specs.Ceiling.{least}
 
 -- each of l that is below m and below all that stand before it
@@ -37,11 +38,6 @@ cut old (e ∷ f ∷ q) = e ∷ cut old (f ∷ q)
 unfoldable pub lastFrom : {E : Type 0} → E → List E → E
 lastFrom e [] = e
 lastFrom e (f ∷ q) = lastFrom f q
-
--- P of each
-abbrev pub All : {E : Type 0} → (E → Type 0) → List E → Type 0
-All P [] = Unit {0}
-All P (x ∷ l) = P x × All P l
 
 abbrev Trans : {E : Type 0} → (E → E → Bool) → Type 0
 Trans {E} le = (x y z : E) → T (le x y) → T (le y z) → T (le x z)

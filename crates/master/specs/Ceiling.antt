@@ -8,7 +8,7 @@ use Rattle.casts.specs.Arithmetic.{_⊗_, _⊘_, whole, nought, one}
 use Rattle.casts.specs.Cast.{narrowed}
 use Rattle.casts.specs.Least.{minF}
 use Rattle.casts.specs.Step.{stepOf}
-use Rattle.stage.specs.Stage.{Stage}
+use Rattle.stage.specs.Stage.{Stage, mapped}
 use Rattle.rate.specs.declared.CeilingRate.{CeilingRate}
 use Rattle.rate.specs.Ceiling.{unit}
 use Rattle.stream.specs.declared.Frame.{Frame}
@@ -74,19 +74,6 @@ silence = record { left = nought; right = nought }
 unfoldable pub lateOf : CeilingRate → CeilingMachine → Frame
 lateOf r m = getD (m .frames) (r .ahead) silence
 
--- "The frame 220 back is multiplied by count/(221·2^40), then narrowed and clamped to the limit, and so delivered"
-unfoldable pub gainOf : CeilingRate → ℕ → Float
-gainOf r count = whole count ⊘ whole (suc (r .ahead) * unit)
-
-unfoldable pub clamped : Float → Float → Float
-clamped limit x = cond (lt x (neg limit)) (neg limit) (cond (lt limit x) limit x)
-
-unfoldable pub played : CeilingRate → ℕ → Float → Float
-played r count x = clamped (r .limit) (narrowed (x ⊗ gainOf r count))
-
-unfoldable pub deliver : CeilingRate → ℕ → Frame → Heard
-deliver r count late = record { left = played r count (late .left); right = played r count (late .right); count = count }
-
 -- the past with one frame more: "Step = whole part of released·2^40."
 unfoldable pub taken : CeilingRate → CeilingMachine → Frame → CeilingMachine
 taken r m f =
@@ -94,11 +81,30 @@ taken r m f =
     let released = releasedOf r needs (m .released) in
     record { needs = needs; released = released; steps = stepOf released ∷ m .steps; frames = f ∷ m .frames }
 
-unfoldable pub delivered : CeilingRate → CeilingMachine → Heard
-delivered r m = deliver r (countOf r m) (lateOf r m)
+-- "The frame 220 back is multiplied by count/(221·2^40)": its sides before narrowing and clamping, of which 02's E11 speaks
+pub record Multiplied : Type 0 where
+  pub left : Float
+  pub right : Float
+  pub count : ℕ
+
+unfoldable pub gainOf : CeilingRate → ℕ → Float
+gainOf r count = whole count ⊘ whole (suc (r .ahead) * unit)
+
+unfoldable pub multiplied : CeilingRate → ℕ → Frame → Multiplied
+multiplied r count late = record { left = late .left ⊗ gainOf r count; right = late .right ⊗ gainOf r count; count = count }
+
+unfoldable pub multipliedStep : CeilingRate → Stage CeilingMachine Frame Multiplied
+multipliedStep r n m f = let p = taken r m f in record { next = p; out = multiplied r (countOf r p) (lateOf r p) }
+
+-- "then narrowed and clamped to the limit, and so delivered"
+unfoldable pub clamped : Float → Float → Float
+clamped limit x = cond (lt x (neg limit)) (neg limit) (cond (lt limit x) limit x)
+
+unfoldable pub delivered : CeilingRate → Multiplied → Heard
+delivered r s = record { left = clamped (r .limit) (narrowed (s .left)); right = clamped (r .limit) (narrowed (s .right)); count = s .count }
 
 unfoldable pub ceilingStep : CeilingRate → Stage CeilingMachine Frame Heard
-ceilingStep r n m f = record { next = taken r m f; out = delivered r (taken r m f) }
+ceilingStep r = mapped (multipliedStep r) (delivered r)
 
 abbrev pub freshMachine : CeilingMachine
 freshMachine = record { needs = []; released = one; steps = []; frames = [] }

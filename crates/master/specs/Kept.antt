@@ -11,13 +11,13 @@ use lib.Ieee.{Float, nan, le}
 use Rattle.casts.specs.Arithmetic.{_⊗_, nought, one}
 use Rattle.casts.specs.Least.{minF}
 use Rattle.casts.specs.Step.{stepOf}
-use Rattle.stage.specs.Stage.{Step, Stage}
+use Rattle.stage.specs.Stage.{Step, Stage, mapped}
 use Rattle.rate.specs.declared.CeilingRate.{CeilingRate}
 use Rattle.rate.specs.Ceiling.{unit}
 use Rattle.stream.specs.declared.Frame.{Frame}
 use Rattle.master.specs.declared.Heard.{Heard}
 use Rattle.master.specs.declared.Ceiling.{Ceiling}
-use Rattle.master.specs.Ceiling.{needOf, deliver}
+use Rattle.master.specs.Ceiling.{needOf, Multiplied, multiplied, delivered}
 
 pub record CeilingIn : Type 0 where
   pub ceiling : Ceiling
@@ -86,12 +86,12 @@ latePlace r n = placesOf r + 2 * (n % r .ahead)
 abbrev pub lateAt : ℕ → List Float → ℕ → Frame
 lateAt P samples j = record { left = getD samples (P + 2 * j) nan; right = getD samples (P + 2 * j + 1) nan }
 
--- ---- one frame
-abbrev pub gave : Ceiling → List Float → List ℕ → Heard → Step CeilingIn Heard
-gave c samples counts heard = record { next = ceilingOn c samples counts; out = heard }
+-- ---- one frame: what it leaves, the late frame's sides before narrowing and clamping, and these narrowed and clamped
+abbrev pub gave : {Y : Type 0} → Ceiling → List Float → List ℕ → Y → Step CeilingIn Y
+gave c samples counts y = record { next = ceilingOn c samples counts; out = y }
 
-unfoldable pub ceilingStepOn : CeilingRate → Stage CeilingIn Frame Heard
-ceilingStepOn r n k f =
+unfoldable pub multipliedStepOn : CeilingRate → Stage CeilingIn Frame Multiplied
+multipliedStepOn r n k f =
     let need = needOf r f in
     let samples = needsAfter r k need in
     let counts = numbersAfter r n k need in
@@ -102,7 +102,10 @@ ceilingStepOn r n k f =
     (record { released = released; count = count; head = headAfter r n k need; len = lenAfter r n k need })
     (set (set samples (latePlace r n) (f .left)) (latePlace r n + 1) (f .right))
     (set counts (stepPlace r n) step)
-    (deliver r count (lateAt (placesOf r) samples (n % r .ahead)))
+    (multiplied r count (lateAt (placesOf r) samples (n % r .ahead)))
+
+unfoldable pub ceilingStepOn : CeilingRate → Stage CeilingIn Frame Heard
+ceilingStepOn r = mapped (multipliedStepOn r) (delivered r)
 
 -- ---- a block: the frames that two slices hold, and the frames and gain counts that it writes
 unfoldable pub framesIn : List Float → List Float → List Frame

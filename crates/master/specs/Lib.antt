@@ -2,3 +2,4 @@
 pub mod Ceiling
 pub mod Kept
 pub mod WellFormed
+pub mod SheetValue

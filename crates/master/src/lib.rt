@@ -11,7 +11,7 @@ ghost use Rattle.casts.specs.Least.{minF};
 ghost use Rattle.casts.specs.Step.{stepOf};
 ghost use Rattle.stage.specs.Stage.{ran, outs};
 ghost use Rattle.rate.specs.Ceiling.{Usable, unit};
-ghost use Rattle.master.specs.Ceiling.{sizeOf, largerOf, needOf, gainOf, clamped, deliver};
+ghost use Rattle.master.specs.Ceiling.{sizeOf, largerOf, needOf, gainOf, multiplied, clamped, delivered};
 ghost use Rattle.master.specs.Kept.{ceilingOn, placesOf, popLen, drops, headAfter, lenAfter, needsAfter, numbersAfter, stepPlace, latePlace, lateAt, gave, ceilingStepOn, framesIn, framesOut, countsOut, filled, ceilingFresh};
 ghost use Rattle.master.specs.WellFormed.{needsIn, stepsIn, sumAt, wellFormed, Sized};
 use rate::CeilingRate;
@@ -225,7 +225,7 @@ fn clamp(limit: f32, x: f64) -> f32
 // A late frame, played at the gain that a count comes to.
 fn play(rate: CeilingRate, count: u64, late: Frame) -> Heard
     requires { ⌜ rate .ahead < 65535 ⌝ }
-    ensures { λ r. ⌜ r ≡ deliver rate count late ⌝ }
+    ensures { λ r. ⌜ r ≡ delivered rate (multiplied rate count late) ⌝ }
 {
     let g = gain(rate, count);
     let limit = rate.limit;

@@ -22,7 +22,7 @@ use Rattle.oscillators.specs.Oscillators.{phaseOf, swellOf, warpDelay}
 use Rattle.tape.specs.Tape.{saturated, liftAt, equalizerStep, duckedStep, tapeStep, freshTone, freshEqualizer, freshTapeMachine, equalizerAtRest, tapeAtRest}
 use Rattle.allpass.specs.Allpass.{storedOf, latticeFrom, latticeStep, stretchedStep, delayStep}
 use Rattle.plate.specs.Machine.{inputStep, halfStep, leaving, tapsOf, fedOf, turnOf, stretchOf, tankStep, returnedOf, plateStep, freshHalf, freshPlate, inputAtRest, halfAtRest, atRest}
-use Rattle.master.specs.Ceiling.{sizeOf, largerOf, peakOf, needFor, needOf, least, leastOf, heldOf, releasedOf, lastOf, total, countOf, lateOf, gainOf, clamped, played, deliver, taken, delivered, ceilingStep}
+use Rattle.master.specs.Ceiling.{sizeOf, largerOf, peakOf, needFor, needOf, least, leastOf, heldOf, releasedOf, lastOf, total, countOf, lateOf, taken, gainOf, multiplied, multipliedStep, clamped, delivered, ceilingStep}
 use Rattle.master.specs.Kept.{framesIn, framesOut}
 use Rattle.strip.specs.Machine.{fresh, mixedStep, stepped, latched, resting, fed, fedAll, delivers, heardFrom}
 use Rattle.strip.specs.Promise.{refusal, eventsOf, feeds, accepted, says, expected}
@@ -31,5 +31,5 @@ use Rattle.strip.specs.Refusals.{okUnit, okOutputs, okEnd, okSamples, okControl
 use Rattle.played.proofs.Apart.{rolled, laneFed, told, laneTakes, laneCall, behindFed, behindCall}
 
 unfoldable pub computed : Unit {0}
-unfolding narrowed floored twoTo stepOf identity down SIN COS EXP LN POW TANH SINH flushed gainOfDb poleOf onePoleAt onePoleStep tiltStep liftOf onePoleAtRest normalized angleOf lpf hpf bpf lowpassAt highpassAt bandpassAt butterQ lowpassRetuned sectionAt sectionStep retuned lowpassStep sectionAtRest lowpassAtRest powerFrom ringOf tapOf allZero held shaped rampAt toward sidechainGain marksAt timesGains duckStep limitOf ceilingRate rounded ceilOf samplesAt scaled predelayOf excursionOf reachOf inputRate leftTaps rightTaps halfRate leftRate rightRate tripOf decayOf diffusionOf dampingOf highpassOf plateRate rateOf warpOf wowOf flutterOf duckRate tapeRate blockOf daylightOf reached segment sweepAt swept cornerBetween driveBetween toneAt tuningAt phaseOf swellOf warpDelay saturated liftAt equalizerStep duckedStep tapeStep freshTone freshEqualizer freshTapeMachine equalizerAtRest tapeAtRest storedOf latticeFrom latticeStep stretchedStep delayStep inputStep halfStep leaving tapsOf fedOf turnOf stretchOf tankStep returnedOf plateStep freshHalf freshPlate inputAtRest halfAtRest atRest sizeOf largerOf peakOf needFor needOf least leastOf heldOf releasedOf lastOf total countOf lateOf gainOf clamped played deliver taken delivered ceilingStep framesIn framesOut fresh mixedStep stepped latched resting fed fedAll delivers heardFrom refusal eventsOf feeds accepted says expected inRange allInRange okUnit okOutputs okEnd okSamples okControls runRefusal latchRefusal add sub mul div neg le lt eq isNan ofInt ofBits toBits toSigned toUnsigned round rolled laneFed told laneTakes laneCall behindFed behindCall
+unfolding narrowed floored twoTo stepOf identity down SIN COS EXP LN POW TANH SINH flushed gainOfDb poleOf onePoleAt onePoleStep tiltStep liftOf onePoleAtRest normalized angleOf lpf hpf bpf lowpassAt highpassAt bandpassAt butterQ lowpassRetuned sectionAt sectionStep retuned lowpassStep sectionAtRest lowpassAtRest powerFrom ringOf tapOf allZero held shaped rampAt toward sidechainGain marksAt timesGains duckStep limitOf ceilingRate rounded ceilOf samplesAt scaled predelayOf excursionOf reachOf inputRate leftTaps rightTaps halfRate leftRate rightRate tripOf decayOf diffusionOf dampingOf highpassOf plateRate rateOf warpOf wowOf flutterOf duckRate tapeRate blockOf daylightOf reached segment sweepAt swept cornerBetween driveBetween toneAt tuningAt phaseOf swellOf warpDelay saturated liftAt equalizerStep duckedStep tapeStep freshTone freshEqualizer freshTapeMachine equalizerAtRest tapeAtRest storedOf latticeFrom latticeStep stretchedStep delayStep inputStep halfStep leaving tapsOf fedOf turnOf stretchOf tankStep returnedOf plateStep freshHalf freshPlate inputAtRest halfAtRest atRest sizeOf largerOf peakOf needFor needOf least leastOf heldOf releasedOf lastOf total countOf lateOf taken gainOf multiplied multipliedStep clamped delivered ceilingStep framesIn framesOut fresh mixedStep stepped latched resting fed fedAll delivers heardFrom refusal eventsOf feeds accepted says expected inRange allInRange okUnit okOutputs okEnd okSamples okControls runRefusal latchRefusal add sub mul div neg le lt eq isNan ofInt ofBits toBits toSigned toUnsigned round rolled laneFed told laneTakes laneCall behindFed behindCall
 computed = tt

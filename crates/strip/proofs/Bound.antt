@@ -26,7 +26,7 @@ heard-are r [] m = refl
 heard-are r (sample x d ∷ es) m = ap (λ (l : List Heard). stepped r m x d .out ∷ l) (heard-are r es (stepped r m x d .next))
 heard-are r (latch c ∷ es) m = heard-are r es (latched m c)
 
-from-fresh : (r : Rate) (s : Setup) (l : Lists) (es : List Event) → heardFrom r (fresh r s l) es ≡ outs (ceilingStep (r .ceiling)) 0 freshMachine (mixedFrom r (fresh r s l) es)
+pub from-fresh : (r : Rate) (s : Setup) (l : Lists) (es : List Event) → heardFrom r (fresh r s l) es ≡ outs (ceilingStep (r .ceiling)) 0 freshMachine (mixedFrom r (fresh r s l) es)
 unfolding fresh
 from-fresh r s l es = heard-are r es (fresh r s l)
 

@@ -21,7 +21,7 @@ use Rattle.strip.specs.declared.Rested as rested
 use Rattle.strip.specs.Refusals.{furthest, okUnit, okOutputs, okEnd, okSamples, okControls, runRefusal, latchRefusal, openRefusal}
 use Rattle.strip.specs.Machine.{Machine, Event, sample, fresh, stepped, latched, fed, fedAll, delivers, heardFrom}
 use Rattle.strip.specs.Calls.{State, state, first, restingOn, openedState, OpenDone, openCall, runCall, latchCall, restCall}
-use Rattle.strip.specs.Promise.{Call, run, move, ask, declined, restStrip, answerTo, after, through, refusal, eventsOf, feeds, accepted, says, expected, framesOf, countsOf, joinedFrames, joinedCounts, takes, joinedEvents}
+use Rattle.strip.specs.Promise.{Call, run, move, ask, declined, restStrip, answerTo, after, through, refusal, eventsOf, feeds, accepted, says, expected, framesOf, countsOf, joinedFrames, joinedCounts, takes, joinedEvents, EveryList}
 use Rattle.strip.proofs.Opening.{passed, opens, open-stands}
 use Rattle.strip.proofs.Related.{Stands, none-first, run-stands, run-heard, latch-stands, same-rest}
 
@@ -141,8 +141,7 @@ module _ (r : Rate) (u : RateUsable r) (s : Setup) (l : Lists) (store : List Flo
   pub opened-stands : Stands r (fresh r s l) (state t (openCall r s l store counts .store) (openCall r s l store counts .counts))
   opened-stands = by-refusal (eqb (openRefusal r s l store counts) 0) refl
 
-pub answered : (r : Rate) → RateUsable r → (s : Setup) (l : Lists) (store : List Float) (counts : List ℕ) (t : Strip) → openCall r s l store counts .answer ≡ opened.the-variants.Strip t
-    → (cs : List Call) → through r (state t (openCall r s l store counts .store) (openCall r s l store counts .counts)) cs ≡ expected r (fresh r s l) cs
+pub answered : (r : Rate) → RateUsable r → EveryList r (λ s l cs answers. answers ≡ expected r (fresh r s l) cs)
 answered r u s l store counts t e cs =
     joined-from r u cs (fresh r s l) (state t (openCall r s l store counts .store) (openCall r s l store counts .counts)) (opened-stands r u s l store counts t e)
 

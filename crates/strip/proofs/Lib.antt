@@ -6,5 +6,6 @@ pub mod Opening
 pub mod Joined
 pub mod Bound
 pub mod Demand3
+pub mod SheetValue
 pub mod Cases
 pub mod Edges

@@ -15,7 +15,7 @@ use Rattle.rate.specs.declared.CeilingRate.{CeilingRate}
 use Rattle.allpass.specs.Allpass.{latticeFromOn, latticeOn, delayOn}
 use Rattle.plate.specs.Plate.{inputOn, HalfIn, halfIn, halfFrom, halfOn, TankIn, tankIn, fedOn, halvesOn, tankOn, PlateIn, plateStepOn}
 use Rattle.plate.specs.Machine.{stretchOf}
-use Rattle.master.specs.Kept.{CeilingIn, ceilingStepOn}
+use Rattle.master.specs.Kept.{CeilingIn, multipliedStepOn, ceilingStepOn}
 
 from-sized : (r : LineRate) (g d : Float) (n : ℕ) (part : List Float) (x : Float) → length (latticeFromOn r g d n part x .next) ≡ length part
 unfolding latticeFromOn storePush
@@ -74,9 +74,9 @@ plate-sized r n s x =
     two-parts k (s .part) (i .next) (tankOn r n t (i .out) .next .part) (input-sized (r .input) n (take k (s .part)) x) (tank-sized r n t (i .out))
 
 pub samples-sized : (r : CeilingRate) (n : ℕ) (k : CeilingIn) (f : Frame) → length (ceilingStepOn r n k f .next .samples) ≡ length (k .samples)
-unfolding ceilingStepOn
+unfolding ceilingStepOn multipliedStepOn
 samples-sized r n k f = simp length-set
 
 pub counts-sized : (r : CeilingRate) (n : ℕ) (k : CeilingIn) (f : Frame) → length (ceilingStepOn r n k f .next .counts) ≡ length (k .counts)
-unfolding ceilingStepOn
+unfolding ceilingStepOn multipliedStepOn
 counts-sized r n k f = simp length-set

@@ -3,5 +3,6 @@ pub mod Refusals
 pub mod Machine
 pub mod Calls
 pub mod Promise
+pub mod SheetValue
 pub mod Cases
 pub mod Edges

@@ -168,11 +168,14 @@ pub record Joined (r : Rate) (s : Setup) (l : Lists) (cs : List Call) (answers :
   pub bound : (i : ℕ) → i < length (joinedCounts answers) → r .ceiling .ahead ≤ i
       → getD (joinedCounts answers) i 0 ≤ suc (r .ceiling .ahead) * stepOf (deliveredNeed r (mixedFrom r (fresh r s l) (joinedEvents 0 cs)) i)
 
--- "A list of calls starts with the strip and stores just as open left them, and with the machine fresh under the same setup, points and kicks."
-unfoldable pub JoinedAt : Rate → Type 0
-JoinedAt r =
+-- P of every list of calls and the answers to it: "A list of calls starts with the strip and stores just as open left them, and with the machine fresh under the same setup, points and kicks."
+abbrev pub EveryList : Rate → (Setup → Lists → List Call → List Answer → Type 0) → Type 0
+EveryList r P =
     (s : Setup) (l : Lists) (store : List Float) (counts : List ℕ) (t : Strip) → openCall r s l store counts .answer ≡ opened.the-variants.Strip t
-    → (cs : List Call) → Joined r s l cs (through r (state t (openCall r s l store counts .store) (openCall r s l store counts .counts)) cs)
+    → (cs : List Call) → P s l cs (through r (state t (openCall r s l store counts .store) (openCall r s l store counts .counts)) cs)
+
+unfoldable pub JoinedAt : Rate → Type 0
+JoinedAt r = EveryList r (Joined r)
 
 -- DEMAND 3, at the rate that is sold: for every setup, lists and stores from which open gives a strip, and for every list of calls
 pub record Demand3 : Type 0 where

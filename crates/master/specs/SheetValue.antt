@@ -1,0 +1,49 @@
+-- 02, E11, "The ceiling's sheet value": "Buyers of small coils want a figure before the clamp." The claim is `SheetValue`, which takes no argument; `sheet-value` in proofs/SheetValue.antt is a term of it.
+-- "Both sides of this are exact values over whole numbers": a finite value's size is num / den, a fraction of whole numbers (the kit's lib.Ieee.Positive).
+use Prim.Native.Nat.{ℕ, _+_, _*_, _^_, _≤_}
+use mathlib.Core.List.{List, _++_}
+use lib.Dec.{T}
+use lib.ListN.{replicate}
+use lib.Ieee.{Float}
+use lib.Ieee.Scale.{finite}
+use lib.Ieee.Positive.{num, den}
+use Rattle.stage.specs.Stage.{outs, All, Beside}
+use Rattle.rate.specs.declared.CeilingRate.{CeilingRate}
+use Rattle.rate.specs.Ceiling.{ceilingRate}
+use Rattle.stream.specs.declared.Frame.{Frame}
+use Rattle.master.specs.Ceiling.{freshMachine, silence, Multiplied, multipliedStep}
+use Rattle.master.specs.Kept.{multipliedStepOn, ceilingFresh}
+use Rattle.master.specs.WellFormed.{Sized}
+
+-- "sides are finite and at most 2^100 in size"
+pub record Moderate (x : Float) : Type 0 where
+  pub is-finite : T (finite x)
+  pub size : num x ≤ 2 ^ 100 * den x
+
+pub record ModerateFrame (f : Frame) : Type 0 where
+  pub left : Moderate (f .left)
+  pub right : Moderate (f .right)
+
+-- "|side| · 2^51 ≤ limit · (2^51 + 1)": both times den side · den limit
+pub record Within (limit side : Float) : Type 0 where
+  pub is-finite : T (finite side)
+  pub size : num side * 2 ^ 51 * den limit ≤ num limit * (2 ^ 51 + 1) * den side
+
+pub record WithinFrame (limit : Float) (s : Multiplied) : Type 0 where
+  pub left : Within limit (s .left)
+  pub right : Within limit (s .right)
+
+-- "For every list of frames from a fresh ceiling whose sides are finite and at most 2^100 in size, each delivered side, before narrowing and clamping, has |side| · 2^51 ≤ limit · (2^51 + 1)."
+pub record SheetValueAt (r : CeilingRate) : Type 0 where
+  -- of the machine
+  pub machine : (fs : List Frame) → All ModerateFrame fs → All (WithinFrame (r .limit)) (outs (multipliedStep r) 0 freshMachine fs)
+  -- of the ceiling as it is kept, from what open lays in parts of the stores that held anything
+  pub kept : (samples : List Float) (counts : List ℕ) → Sized r samples counts
+      → (fs : List Frame) → All ModerateFrame fs → All (WithinFrame (r .limit)) (outs (multipliedStepOn r) 0 (ceilingFresh r samples counts) fs)
+  -- and more: of each frame by itself, beside the one `ahead` back that it comes from, whatever the other frames hold
+  pub each : (fs : List Frame) → Beside (λ f s. ModerateFrame f → WithinFrame (r .limit) s) (replicate (r .ahead) silence ++ fs) (outs (multipliedStep r) 0 freshMachine fs)
+
+-- E11: "It is to hold at both rates."
+pub record SheetValue : Type 0 where
+  pub at-44100 : SheetValueAt (ceilingRate 44100)
+  pub at-48000 : SheetValueAt (ceilingRate 48000)
