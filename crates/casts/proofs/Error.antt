@@ -18,7 +18,7 @@ use Rattle.casts.specs.Same.{unsigned}
 use Rattle.casts.proofs.Closest.{Cmp, cmp}
 
 -- ---- the nearest whole number to a / b is at most a half above a / b
-pub closest-half : (a b : ℕ) → closest a b * b * 2 ≤ a * 2 + b
+closest-half : (a b : ℕ) → closest a b * b * 2 ≤ a * 2 + b
 closest-half a b = go (compare (a % b * 2) b) (cmp (a % b * 2) b)
   where
     below : (x r : ℕ) → x + r ≡ a → x * 2 ≤ a * 2 + b
@@ -47,7 +47,7 @@ twice p P = sym (pow-add 2 1 (p - 1)) ∙ ap (λ (x : ℕ). 2 ^ x) (whole p P)
     whole : (p : ℕ) → 0 < p → 1 + (p - 1) ≡ p
     whole p P = omega arith
 
-pub grid-error : (f : Format) (a c : ℕ) → 0 < c → prec f ≤ size (a * 2 ^ low f / c) → grid f a c * (c * 2 ^ prec f) ≤ a * 2 ^ low f * suc (2 ^ prec f)
+grid-error : (f : Format) (a c : ℕ) → 0 < c → prec f ≤ size (a * 2 ^ low f / c) → grid f a c * (c * 2 ^ prec f) ≤ a * 2 ^ low f * suc (2 ^ prec f)
 grid-error f a c C N =
     let p = prec f in
     let n = a * 2 ^ low f in

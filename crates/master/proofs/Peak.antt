@@ -27,7 +27,7 @@ pub record SizeIs (x y : Float) : Type 0 where
   pub same-num : num y ≡ num x
   pub same-den : den y ≡ den x
 
-pub size-of : (x : Float) → T (finite x) → SizeIs x (sizeOf x)
+size-of : (x : Float) → T (finite x) → SizeIs x (sizeOf x)
 unfolding sizeOf lt neg ofBits
 size-of nan h = absurd h
 size-of (inf s) h = absurd h
@@ -49,7 +49,7 @@ size-of (fin true m e) h = go (ltb 0 (m * up e * 1 + 0 * down e)) (nltb→le 0 (
     go false k = record { nonnegative = first-zero m (up e) (up-pos e) (zero-left (m * up e) (0 * down e) (k tt)); same-num = refl; same-den = refl }
 
 -- ---- the larger of two
-pub larger-is : (Q : Float → Type 0) (a b : Float) → Q a → Q b → Q (largerOf a b)
+larger-is : (Q : Float → Type 0) (a b : Float) → Q a → Q b → Q (largerOf a b)
 unfolding largerOf
 larger-is Q a b p q = go (lt a b || isNan a)
   where
@@ -57,7 +57,7 @@ larger-is Q a b p q = go (lt a b || isNan a)
     go true = q
     go false = p
 
-pub larger-above : (a b : Float) → NonNegative a → NonNegative b → T (le a (largerOf a b)) × T (le b (largerOf a b))
+larger-above : (a b : Float) → NonNegative a → NonNegative b → T (le a (largerOf a b)) × T (le b (largerOf a b))
 unfolding largerOf
 larger-above a b p q = go (lt a b) refl (isNan a) (nonnegative-clean a p)
   where

@@ -29,6 +29,7 @@ use Rattle.master.proofs.Opening.{fresh-is}
 use Rattle.master.proofs.Sizes.{plain-nonnegative, le-sizes}
 use Rattle.master.proofs.Peak.{Peaked, peaked, Needed, needed}
 use Rattle.master.proofs.Side.{side-within}
+use Rattle.master.proofs.AboveLimit.{above}
 
 -- ---- silence
 moderate-nought : Moderate nought
@@ -139,11 +140,11 @@ module _ (r : CeilingRate) (usable : Usable r) (sheet : SheetUsable r) where
       (ap (λ (l : List Frame). l ++ fs) (sym (waiting-more (r .ahead) f h)) ∙ append-assoc (waiting (r .ahead) h) (f ∷ []) fs)
       (one-within h f n, from-past (n + 1) (f ∷ h) fs)
 
-  pub each-within : (fs : List Frame) → Beside Figure (replicate (r .ahead) silence ++ fs) (outs (multipliedStep r) 0 freshMachine fs)
+  each-within : (fs : List Frame) → Beside Figure (replicate (r .ahead) silence ++ fs) (outs (multipliedStep r) 0 freshMachine fs)
   unfolding after
   each-within fs = subst (λ (l : List Frame). Beside Figure (l ++ fs) (outs (multipliedStep r) 0 freshMachine fs)) (waiting-first (r .ahead)) (from-past 0 [] fs)
 
-  pub machine-within : (fs : List Frame) → All ModerateFrame fs → All (WithinFrame (r .limit)) (outs (multipliedStep r) 0 freshMachine fs)
+  machine-within : (fs : List Frame) → All ModerateFrame fs → All (WithinFrame (r .limit)) (outs (multipliedStep r) 0 freshMachine fs)
   machine-within fs a =
       all-beside ModerateFrame (WithinFrame (r .limit)) (replicate (r .ahead) silence ++ fs) (outs (multipliedStep r) 0 freshMachine fs) (each-within fs)
       (all-append ModerateFrame (replicate (r .ahead) silence) fs (moderate-silence (r .ahead)) a)
@@ -160,4 +161,10 @@ module _ (r : CeilingRate) (usable : Usable r) (sheet : SheetUsable r) where
 
 -- E11
 pub sheet-value : SheetValue
-sheet-value = record { at-44100 = sheet-value-at (ceilingRate 44100) usable-44100 sheet-usable-44100; at-48000 = sheet-value-at (ceilingRate 48000) usable-48000 sheet-usable-48000 }
+sheet-value =
+    record {
+      at-44100 = sheet-value-at (ceilingRate 44100) usable-44100 sheet-usable-44100;
+      at-48000 = sheet-value-at (ceilingRate 48000) usable-48000 sheet-usable-48000;
+      above-44100 = above .0;
+      above-48000 = above .1;
+    }

@@ -1,6 +1,6 @@
 -- A side of the frame `ahead` back, times the gain, is at most the limit times 1 + 2 ^ -51, before it is narrowed and clamped. Assumes nothing.
 use mathlib.Core.Path.{_≡_, refl, sym, subst}
-use Prim.Native.Nat.{ℕ, suc, _+_, _*_, _^_, _≤_, _<_}
+use Prim.Native.Nat.{ℕ, suc, _*_, _^_, _≤_, _<_}
 use native.Mathlib.Nat.{le-trans, le-of-eq, le-suc, mul-comm, mul-assoc, mul-left-comm, mul-one, mul-le-mul, mul-le-mul-right, mul-le-mul-left, le-of-mul-le-mul-right, mul-pos}
 use native.Mathlib.Omega.{arith}
 use mathlib.Core.Bool.{true, false}
@@ -85,7 +85,7 @@ module _ (limit : Float) (is-plain : T (plain limit)) (low : den limit ≤ num l
       let e : num S * (B * 2 ^ 53) ≤ A * suc (2 ^ 53) * den S = round-error binary64 A B bp (normal-of-fraction binary64 A B bp normal) (round-under binary64 A B (plain-finite S (s .0))) in
       record {
         is-finite = plain-finite (round binary64 false a c) (y .0);
-        size = ended (num (round binary64 false a c)) (den (round binary64 false a c)) (num S) (den S) L l (2 ^ 53) (suc (2 ^ 53)) (2 ^ 51) (2 ^ 51 + 1) (den-pos S) (pow-pos 53) (y .1) e (lit≤ tt);
+        size = ended (num (round binary64 false a c)) (den (round binary64 false a c)) (num S) (den S) L l (2 ^ 53) (suc (2 ^ 53)) _ _ (den-pos S) (pow-pos 53) (y .1) e (lit≤ tt);
       }
     where
       twice : (L l t : ℕ) → 0 < t → L ≤ l → L * suc t * 1 ≤ 2 * (l * t)

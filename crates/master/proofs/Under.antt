@@ -22,7 +22,7 @@ use Rattle.master.specs.Ceiling.{gainOf}
 use Rattle.master.proofs.Sizes.{round-plain}
 
 -- ---- a value that fits, in units of the format's smallest value
-pub in-units : (f : Format) (e : ℤ) → down e ≤ 2 ^ low f → (j : ℕ) × (up e * 2 ^ low f ≡ 2 ^ j * down e)
+in-units : (f : Format) (e : ℤ) → down e ≤ 2 ^ low f → (j : ℕ) × (up e * 2 ^ low f ≡ 2 ^ j * down e)
 in-units f (pos k) h = (k + low f, sym (pow-add 2 k (low f)) ∙ sym (mul-one (2 ^ (k + low f))))
 in-units f (negsuc k) h = (low f - suc k, one-mul (2 ^ low f) ∙ ap (λ (x : ℕ). 2 ^ x) (sym (sub-add-cancel few)) ∙ pow-add 2 (low f - suc k) (suc k))
   where
@@ -33,7 +33,7 @@ in-units f (negsuc k) h = (low f - suc k, one-mul (2 ^ low f) ∙ ap (λ (x : �
         go n = omega arith
 
 -- ---- 2 ^ t times a value of at most 1 that fits is exact
-pub times-exact : (f : Format) (m : ℕ) (e : ℤ) (t : ℕ) → t ≤ emax f → T (fits f (fin false m e)) → m * up e ≤ down e
+times-exact : (f : Format) (m : ℕ) (e : ℤ) (t : ℕ) → t ≤ emax f → T (fits f (fin false m e)) → m * up e ≤ down e
     → HasValue (round f false (m * up e * (1 * 2 ^ t)) (down e * 1)) false (m * up e * (1 * 2 ^ t)) (down e * 1)
 times-exact f zero e t T F h =
     round-exact f false (zero * up e * (1 * 2 ^ t)) (down e * 1) 0 0 (mul-pos (down-pos e) (pow-pos 0)) (pow-pos (prec f)) (pow-pos (low f + suc (emax f)))
@@ -57,7 +57,7 @@ times-exact f (suc m) e t T F h =
         ap (λ (x : ℕ). m * u * x * l) (one-mul t) ∙ e ∙ ap (λ (x : ℕ). m * x * d) (sym q) ∙ ap (λ (x : ℕ). m * jt * x) (sym (mul-one d))
 
 -- ---- the whole part of a value
-pub cut-under : (w : ℕ) (y : Float) (a c : ℕ) → 0 < c → HasValue y false a c → toUnsigned w y * c ≤ a
+cut-under : (w : ℕ) (y : Float) (a c : ℕ) → 0 < c → HasValue y false a c → toUnsigned w y * c ≤ a
 unfolding toUnsigned
 cut-under w nan a c C h = absurd h
 cut-under w (inf s) a c C h = absurd h
@@ -72,7 +72,7 @@ cut-under w (fin false m e) a c C h =
     least a b = omega arith
 
 -- the step of a need: step / 2 ^ 40 ≤ need
-pub step-under : (m : ℕ) (e : ℤ) → T (fits binary64 (fin false m e)) → m * up e ≤ down e → stepOf (fin false m e) * down e ≤ m * up e * 2 ^ 40
+step-under : (m : ℕ) (e : ℤ) → T (fits binary64 (fin false m e)) → m * up e ≤ down e → stepOf (fin false m e) * down e ≤ m * up e * 2 ^ 40
 unfolding stepOf mul
 step-under m e F h =
     let v = times-exact binary64 m e 40 (lit≤ tt) F h in
@@ -117,7 +117,7 @@ module _ (r : CeilingRate) (few : suc (r .ahead) ≤ 2 ^ 13) where
   full-small : full ≤ 2 ^ 53
   full-small = mul-le-mul-right (2 ^ 40) few
 
-  pub gain-rounds : (count : ℕ) → count ≤ full → gainOf r count ≡ round binary64 false (count * 1) (full * 1)
+  gain-rounds : (count : ℕ) → count ≤ full → gainOf r count ≡ round binary64 false (count * 1) (full * 1)
   unfolding gainOf ofInt
   gain-rounds count h =
       div-at binary64 (whole count) (whole full) count 1 full 1 (pow-pos 0) (pow-pos 0) full-pos

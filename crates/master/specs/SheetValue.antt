@@ -1,12 +1,13 @@
 -- 02, E11, "The ceiling's sheet value": "Buyers of small coils want a figure before the clamp." The claim is `SheetValue`, which takes no argument; `sheet-value` in proofs/SheetValue.antt is a term of it.
 -- "Both sides of this are exact values over whole numbers": a finite value's size is num / den, a fraction of whole numbers (the kit's lib.Ieee.Positive).
 use Prim.Native.Nat.{ℕ, _+_, _*_, _^_, _≤_}
-use mathlib.Core.List.{List, _++_}
+use mathlib.Core.List.{List, _∷_, _++_}
 use lib.Dec.{T}
-use lib.ListN.{replicate}
-use lib.Ieee.{Float}
+use lib.ListN.{getD, replicate}
+use lib.Ieee.{Float, binary64, lt, ofBits}
 use lib.Ieee.Scale.{finite}
 use lib.Ieee.Positive.{num, den}
+use Rattle.casts.specs.Arithmetic.{nought}
 use Rattle.stage.specs.Stage.{outs, All, Beside}
 use Rattle.rate.specs.declared.CeilingRate.{CeilingRate}
 use Rattle.rate.specs.Ceiling.{ceilingRate}
@@ -43,7 +44,18 @@ pub record SheetValueAt (r : CeilingRate) : Type 0 where
   -- and more: of each frame by itself, beside the one `ahead` back that it comes from, whatever the other frames hold
   pub each : (fs : List Frame) → Beside (λ f s. ModerateFrame f → WithinFrame (r .limit) s) (replicate (r .ahead) silence ++ fs) (outs (multipliedStep r) 0 freshMachine fs)
 
+-- That the limit itself is no such bound: a frame with 1.1362060345226561 on the right, and silence until it is delivered, above the limit
+abbrev pub peak : Frame
+peak = record { left = nought; right = ofBits binary64 0x3ff2_2de6_60fc_aeb7 }
+
+abbrev pub AboveLimit : CeilingRate → Type 0
+AboveLimit r =
+    let nothing : Multiplied = record { left = nought; right = nought; count = 0 } in
+    T (lt (r .limit) (getD (outs (multipliedStep r) 0 freshMachine (peak ∷ replicate (r .ahead) silence)) (r .ahead) nothing .right))
+
 -- E11: "It is to hold at both rates."
 pub record SheetValue : Type 0 where
   pub at-44100 : SheetValueAt (ceilingRate 44100)
   pub at-48000 : SheetValueAt (ceilingRate 48000)
+  pub above-44100 : AboveLimit (ceilingRate 44100)
+  pub above-48000 : AboveLimit (ceilingRate 48000)

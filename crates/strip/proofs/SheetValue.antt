@@ -3,7 +3,7 @@ use mathlib.Core.Path.{_≡_, ap, _∙_, subst⁻¹}
 use Prim.Native.Nat.{ℕ}
 use mathlib.Core.List.{List, map}
 use lib.ListN.{take}
-use Rattle.stage.specs.Stage.{outs, All}
+use Rattle.stage.specs.Stage.{All}
 use Rattle.stage.proofs.Laws.{outs-take, outs-mapped}
 use Rattle.rate.specs.declared.Rate.{Rate}
 use Rattle.rate.specs.Rate.{rateOf, RateUsable}
@@ -12,7 +12,7 @@ use Rattle.rate.proofs.Rates.{usable-44100, sheet-usable-44100}
 use Rattle.tape.specs.Tape.{Lists}
 use Rattle.master.specs.Ceiling.{freshMachine, multipliedStep, delivered, ceilingStep}
 use Rattle.master.specs.Kept.{framesOut, countsOut}
-use Rattle.master.specs.SheetValue.{ModerateFrame, WithinFrame}
+use Rattle.master.specs.SheetValue.{WithinFrame}
 use Rattle.master.proofs.SheetValue.{sheet-value-at}
 use Rattle.strip.specs.declared.Setup.{Setup}
 use Rattle.strip.specs.Machine.{fresh, heardFrom}

@@ -1,4 +1,4 @@
-//! The ceiling: a fresh one over frames, call by call.
+//! The ceiling: a fresh one over frames, call by call, and 02's E11: its sides before they are narrowed and clamped.
 
 use oracle::stream::master::Ceiling;
 
@@ -10,8 +10,18 @@ use crate::setup::RATE;
 use crate::shrink::{Shrink, halves};
 use crate::signal::{self, Signal};
 
+/// The frames by which the ceiling is late.
+const AHEAD: usize = 220;
+
 /// The gain count of 1.
 const GAIN_OF_ONE: u64 = 221 << 40;
+
+/// E11's other rate, of which the Rust alone is looked at.
+const OTHER_RATE: u32 = 48_000;
+const OTHER_AHEAD: usize = 240;
+
+/// "finite and at most 2^100 in size"
+const MODERATE: f64 = (1u128 << 100) as f64;
 
 #[derive(Clone, Debug)]
 struct Case {
@@ -20,41 +30,114 @@ struct Case {
     calls: Vec<u64>,
 }
 
+/// A frame through a ceiling: the late one's sides before they are narrowed and clamped, and the gain count.
+fn multiplied(ceiling: &mut Ceiling, frame: [f64; 2]) -> ([f64; 2], u64) {
+    let mut one = [frame];
+    ceiling.limit_heard(&mut one, |_| ());
+    (one[0], ceiling.sum())
+}
+
 /// Frames through a ceiling, one at a time, so that each one's gain count is seen.
 pub fn limited(ceiling: &mut Ceiling, frames: &[[f64; 2]]) -> (Vec<f32>, Vec<u64>) {
     let mut out = Vec::new();
     let mut gains = Vec::new();
     for &frame in frames {
-        let mut one = [frame];
-        ceiling.limit_heard(&mut one, |_| ());
-        out.extend(one[0].map(|side| ceiling.clamp(side)));
-        gains.push(ceiling.sum());
+        let (sides, count) = multiplied(ceiling, frame);
+        out.extend(sides.map(|side| ceiling.clamp(side)));
+        gains.push(count);
     }
     (out, gains)
 }
 
-/// A steady tone, or a level held, whose peaks stand at the limit, one f64 to either side of it, or far above.
+fn limit() -> f64 {
+    f64::from(Ceiling::new(RATE).clamp(f64::INFINITY))
+}
+
+/// A steady tone, or a level held, whose peaks stand at the limit, one f64 to either side of it, far above, or where the need
+/// is a whole number of steps, so that the gain is the need itself.
 fn steady(rng: &mut Rng, len: usize) -> Signal {
-    let limit = f64::from(Ceiling::new(RATE).clamp(f64::INFINITY));
-    let level = rng.pick(&[limit, limit.next_up(), limit.next_down(), 2.0 * limit, 2f64.powi(100)]);
+    let limit = limit();
+    let even = limit / (rng.within(1 << 20, 1 << 40) as f64 / (1u64 << 40) as f64);
+    let level = rng.pick(&[limit, limit.next_up(), limit.next_down(), 2.0 * limit, MODERATE, even, even, even]);
     let turn = rng.between(0.0, 3.0);
     let step = rng.pick(&[0.0, std::f64::consts::PI, turn]);
     Signal((0..len).map(|i| level * (step * i as f64).cos()).collect())
 }
 
+/// Sizes within three f64 of the limit, and among them spikes of up to 2^100.
+fn spiked(rng: &mut Rng, len: usize) -> Signal {
+    let limit = limit();
+    let apart = rng.scaled(2.0, 4000.0) as u64;
+    let size = |rng: &mut Rng| if rng.flag() { rng.scaled(1.0, MODERATE) } else { MODERATE };
+    let mut side = |_| {
+        let x = if rng.once_in(apart) { size(rng) } else { rng.near(limit) };
+        rng.pick(&[x, -x])
+    };
+    Signal((0..len).map(&mut side).collect())
+}
+
+/// A size that is finite as digits and exponent: exactly digits · 2^exponent.
+fn exactly(x: f64) -> (u128, i32) {
+    let field = (x.to_bits() >> 52 & 0x7ff) as i32;
+    let digits = u128::from(x.to_bits() & ((1 << 52) - 1));
+    if field == 0 { (digits, -1074) } else { (digits | 1 << 52, field - 1075) }
+}
+
+/// E11's "|side| · 2^51 ≤ limit · (2^51 + 1)", in whole numbers.
+fn within(side: f64, limit: f64) -> bool {
+    let (s, e) = exactly(side);
+    let (l, f) = exactly(limit);
+    let (ours, most) = (s << 51, l * ((1 << 51) + 1));
+    let up = (e - f).max(0) as u32;
+    let down = (f - e).clamp(0, 127) as u32;
+    side.is_finite() && ours.leading_zeros() >= up && (ours << up).div_ceil(1 << down) <= most
+}
+
+/// The frames that the delivered ones come from: silence, and then those that came in.
+fn late(frames: &[[f64; 2]], ahead: usize) -> Vec<[f64; 2]> {
+    std::iter::repeat_n([0.0; 2], ahead).chain(frames.iter().copied()).take(frames.len()).collect()
+}
+
+/// Where a side first passes E11's bound, of those that come from a frame that is finite and at most 2^100.
+fn beyond(late: &[[f64; 2]], sides: &[[f64; 2]]) -> Option<String> {
+    let limit = limit();
+    let moderate = |frame: &[f64; 2]| frame.iter().all(|side| side.abs() <= MODERATE);
+    let passes = |(frame, sides): &(&[f64; 2], &[f64; 2])| moderate(frame) && !sides.iter().all(|&side| within(side, limit));
+    let (at, (frame, sides)) = late.iter().zip(sides).enumerate().find(|(_, one)| passes(one))?;
+    Some(format!("before the clamp {at}: {sides:?} of {frame:?} passes 02's bound"))
+}
+
 impl Case {
-    fn oracle(&self) -> (Vec<f32>, Vec<u64>) {
-        let frames: Vec<[f64; 2]> = self.left.iter().zip(self.right.iter()).map(|(&l, &r)| [l, r]).collect();
-        limited(&mut Ceiling::new(RATE), &frames)
+    fn frames(&self) -> Vec<[f64; 2]> {
+        self.left.iter().zip(self.right.iter()).map(|(&l, &r)| [l, r]).collect()
     }
 }
 
+/// What the Rust makes of frames at a rate: each one's sides before they are narrowed and clamped, and the gain counts.
+fn oracle(frames: &[[f64; 2]], rate: u32) -> (Vec<[f64; 2]>, Vec<u64>) {
+    let mut ceiling = Ceiling::new(rate);
+    frames.iter().map(|&frame| multiplied(&mut ceiling, frame)).unzip()
+}
+
 impl List for Case {
-    const MATTERS: &[&str] = &["a gain below 1", "a release", "a NaN", "more frames than the window"];
+    const MATTERS: &[&str] = &[
+        "a gain below 1",
+        "a release",
+        "a NaN",
+        "more frames than the window",
+        "a spike of 2^100",
+        "one f64 above the limit",
+        "one f64 below it",
+        "before the clamp, above the limit",
+    ];
 
     fn drawn(rng: &mut Rng) -> Self {
         let len = rng.scaled(1.0, 8000.0) as usize;
-        let left = if rng.once_in(4) { steady(rng, len) } else { signal::wild(rng, len) };
+        let left = match rng.below(4) {
+            0 => steady(rng, len),
+            1 => spiked(rng, len),
+            _ => signal::wild(rng, len),
+        };
         let right =
             if rng.flag() { Signal(left.iter().map(|x| x * 0.5).collect()) } else { signal::wild(rng, len) };
         Case { left, right, calls: lists::sizes(rng, len) }
@@ -66,12 +149,27 @@ impl List for Case {
 
     fn difference(&self, met: &mut Met) -> Option<String> {
         let (our_frames, our_gains) = part::ceiling(&self.left, &self.right, &self.calls);
-        let (frames, gains) = self.oracle();
+        let all = self.frames();
+        let (sides, gains) = oracle(&all, RATE);
+        let clamping = Ceiling::new(RATE);
+        let frames: Vec<f32> = sides.iter().flatten().map(|&side| clamping.clamp(side)).collect();
+        let behind = late(&all, AHEAD);
+        let gain = |count: u64| count as f64 / GAIN_OF_ONE as f64;
+        let ours: Vec<f64> = behind.iter().zip(&our_gains).flat_map(|(f, &c)| f.map(|side| side * gain(c))).collect();
+        let limit = limit();
         met.note("a gain below 1", gains.iter().any(|&count| count < GAIN_OF_ONE));
         met.note("a release", gains.windows(2).any(|two| two[0] < two[1]));
         met.note("a NaN", frames.iter().any(|side| side.is_nan()));
         met.note("more frames than the window", gains.len() > 882);
-        lists::first("gain count", &our_gains, &gains).or_else(|| lists::first("side", &our_frames, &frames))
+        met.note("a spike of 2^100", self.left.contains(&MODERATE));
+        met.note("one f64 above the limit", self.left.contains(&limit.next_up()));
+        met.note("one f64 below it", self.left.contains(&limit.next_down()));
+        met.note("before the clamp, above the limit", sides.iter().flatten().any(|side| side.abs() > limit));
+        lists::first("gain count", &our_gains, &gains)
+            .or_else(|| lists::first("side before the clamp", &ours, sides.as_flattened()))
+            .or_else(|| lists::first("side", &our_frames, &frames))
+            .or_else(|| beyond(&behind, &sides))
+            .or_else(|| beyond(&late(&all, OTHER_AHEAD), &oracle(&all, OTHER_RATE).0))
     }
 }
 
