@@ -1,4 +1,4 @@
--- THE SHEET VALUE (02, E11), over every list of frames: count-bound gives the gain bound of any past, side-within the rest. Assumes nothing.
+-- THE SHEET VALUE (02, E11), over every list of frames: count-bound gives the gain bound of any past, side-bounded the rest. Assumes nothing.
 use mathlib.Core.Path.{_≡_, refl, sym, ap, subst, subst⁻¹, _∙_}
 use mathlib.Core.Logic.{inl, inr}
 use mathlib.Core.List.{List, [], _∷_, _++_, append-assoc}
@@ -15,12 +15,12 @@ use Rattle.casts.specs.Step.{stepOf, step-le, step-one}
 use Rattle.stage.specs.Stage.{outs, All, Beside}
 use Rattle.stage.proofs.Laws.{outs-length, all-append, beside-none, all-beside}
 use Rattle.rate.specs.declared.CeilingRate.{CeilingRate}
-use Rattle.rate.specs.Ceiling.{unit, plain, ceilingRate, Usable, SheetUsable}
-use Rattle.rate.proofs.Ceiling.{usable-44100, usable-48000, sheet-usable-44100, sheet-usable-48000}
+use Rattle.rate.specs.Ceiling.{unit, plain, ceilingRate, Usable, SheetValueUsable}
+use Rattle.rate.proofs.Ceiling.{usable-44100, usable-48000, sheet-value-usable-44100, sheet-value-usable-48000}
 use Rattle.stream.specs.declared.Frame.{Frame}
 use Rattle.master.specs.Ceiling.{freshMachine, silence, peakOf, sizeOf, largerOf, needFor, needOf, lastOf, total, countOf, lateOf, taken, Multiplied, multiplied, multipliedStep}
 use Rattle.master.specs.Kept.{ceilingFresh}
-use Rattle.master.specs.SheetValue.{Moderate, ModerateFrame, WithinFrame, SheetValueAt, SheetValue}
+use Rattle.master.specs.SheetValue.{Moderate, ModerateFrame, FrameBound, Figure, SheetValueAt, SheetValue}
 use Rattle.master.proofs.Window.{le-or-lt}
 use Rattle.master.proofs.Bound.{after, after-gain, steps-bound}
 use Rattle.master.proofs.Refines.{same-multiplied}
@@ -28,7 +28,7 @@ use Rattle.master.proofs.Delivered.{frames-are}
 use Rattle.master.proofs.Opening.{fresh-is}
 use Rattle.master.proofs.Sizes.{plain-nonnegative, le-sizes}
 use Rattle.master.proofs.Peak.{Peaked, peaked, Needed, needed}
-use Rattle.master.proofs.Side.{side-within}
+use Rattle.master.proofs.Side.{side-bounded}
 use Rattle.master.proofs.AboveLimit.{above}
 
 -- ---- silence
@@ -57,7 +57,7 @@ waiting-more (suc k) f h = ap (λ (l : List Frame). getD h k silence ∷ l) (wai
 more : (j s t : ℕ) → s ≤ unit → t ≤ j * unit → s + t ≤ suc j * unit
 more j s t h k = omega arith
 
-module _ (r : CeilingRate) (usable : Usable r) (sheet : SheetUsable r) where
+module _ (r : CeilingRate) (usable : Usable r) (besides : SheetValueUsable r) where
   -- ---- the count of any past is at most that of silence
   steps-full : (j : ℕ) (h : List Frame) → total (lastOf j unit (after r h .steps)) ≤ j * unit
   unfolding total lastOf after taken ofBits
@@ -98,55 +98,52 @@ module _ (r : CeilingRate) (usable : Usable r) (sheet : SheetUsable r) where
 
   low : den (r .limit) ≤ num (r .limit) * 2
   unfolding ofBits
-  low = flat (den (r .limit)) (num (r .limit) * 2) (le-sizes half (r .limit) tt (plain-nonnegative (r .limit) (usable .limit-plain)) (sheet .limit-low))
+  low = flat (den (r .limit)) (num (r .limit) * 2) (le-sizes half (r .limit) tt (plain-nonnegative (r .limit) (usable .limit-plain)) (besides .limit-low))
     where
       flat : (a b : ℕ) → 1 * a ≤ b → a ≤ b
       flat a b h = omega arith
 
   high : num (r .limit) ≤ den (r .limit)
   unfolding ofBits
-  high = flat (num (r .limit)) (den (r .limit)) (le-sizes (r .limit) one (plain-nonnegative (r .limit) (usable .limit-plain)) tt (sheet .limit-high))
+  high = flat (num (r .limit)) (den (r .limit)) (le-sizes (r .limit) one (plain-nonnegative (r .limit) (usable .limit-plain)) tt (besides .limit-high))
     where
       flat : (a b : ℕ) → a * 1 ≤ 1 * b → a ≤ b
       flat a b h = omega arith
 
-  late-within : (h : List Frame) → ModerateFrame (getD h (r .ahead) silence) → WithinFrame (r .limit) (multiplied r (countOf r (after r h)) (getD h (r .ahead) silence))
+  late-bounded : (h : List Frame) → ModerateFrame (getD h (r .ahead) silence) → FrameBound (r .limit) (multiplied r (countOf r (after r h)) (getD h (r .ahead) silence))
   unfolding needOf multiplied
-  late-within h m =
+  late-bounded h m =
       let f = getD h (r .ahead) silence in
       let q = peakOf f in
       let k : Peaked f q = peaked f (m .left) (m .right) in
       let n : Needed (num (r .limit)) (den (r .limit)) (num q) (den q) (needOf r f) = needed (r .limit) q (usable .limit-plain) low (k .nonnegative) (k .small) in
       let c = count-bound h in
       record {
-        left = side-within (r .limit) (usable .limit-plain) low high r (sheet .ahead-few) (num q) (den q) (countOf r (after r h)) (f .left) (needOf r f) (den-pos q) (m .left .is-finite) (k .left) n c;
-        right = side-within (r .limit) (usable .limit-plain) low high r (sheet .ahead-few) (num q) (den q) (countOf r (after r h)) (f .right) (needOf r f) (den-pos q) (m .right .is-finite) (k .right) n c;
+        left = side-bounded (r .limit) (usable .limit-plain) low high r (besides .ahead-few) (num q) (den q) (countOf r (after r h)) (f .left) (needOf r f) (den-pos q) (m .left .is-finite) (k .left) n c;
+        right = side-bounded (r .limit) (usable .limit-plain) low high r (besides .ahead-few) (num q) (den q) (countOf r (after r h)) (f .right) (needOf r f) (den-pos q) (m .right .is-finite) (k .right) n c;
       }
 
   -- ---- over the frames in order, the frames h having come before
-  abbrev Figure : Frame → Multiplied → Type 0
-  Figure f s = ModerateFrame f → WithinFrame (r .limit) s
-
-  one-within : (h : List Frame) (f : Frame) (n : ℕ) → Figure (getD (f ∷ h) (r .ahead) silence) (multipliedStep r n (after r h) f .out)
+  one-bounded : (h : List Frame) (f : Frame) (n : ℕ) → Figure (r .limit) (getD (f ∷ h) (r .ahead) silence) (multipliedStep r n (after r h) f .out)
   unfolding multipliedStep lateOf after
-  one-within h f n =
-      subst (λ (l : List Frame). Figure (getD (f ∷ h) (r .ahead) silence) (multiplied r (countOf r (after r (f ∷ h))) (getD l (r .ahead) silence))) (sym (frames-are r usable (f ∷ h))) (late-within (f ∷ h))
+  one-bounded h f n =
+      subst (λ (l : List Frame). Figure (r .limit) (getD (f ∷ h) (r .ahead) silence) (multiplied r (countOf r (after r (f ∷ h))) (getD l (r .ahead) silence))) (sym (frames-are r usable (f ∷ h))) (late-bounded (f ∷ h))
 
-  from-past : (n : ℕ) (h fs : List Frame) → Beside Figure (waiting (r .ahead) h ++ fs) (outs (multipliedStep r) n (after r h) fs)
+  from-past : (n : ℕ) (h fs : List Frame) → Beside (Figure (r .limit)) (waiting (r .ahead) h ++ fs) (outs (multipliedStep r) n (after r h) fs)
   unfolding outs multipliedStep after
-  from-past n h [] = beside-none Figure (waiting (r .ahead) h ++ [])
+  from-past n h [] = beside-none (Figure (r .limit)) (waiting (r .ahead) h ++ [])
   from-past n h (f ∷ fs) =
-      subst (λ (l : List Frame). Beside Figure l (outs (multipliedStep r) n (after r h) (f ∷ fs)))
+      subst (λ (l : List Frame). Beside (Figure (r .limit)) l (outs (multipliedStep r) n (after r h) (f ∷ fs)))
       (ap (λ (l : List Frame). l ++ fs) (sym (waiting-more (r .ahead) f h)) ∙ append-assoc (waiting (r .ahead) h) (f ∷ []) fs)
-      (one-within h f n, from-past (n + 1) (f ∷ h) fs)
+      (one-bounded h f n, from-past (n + 1) (f ∷ h) fs)
 
-  each-within : (fs : List Frame) → Beside Figure (replicate (r .ahead) silence ++ fs) (outs (multipliedStep r) 0 freshMachine fs)
+  each-bounded : (fs : List Frame) → Beside (Figure (r .limit)) (replicate (r .ahead) silence ++ fs) (outs (multipliedStep r) 0 freshMachine fs)
   unfolding after
-  each-within fs = subst (λ (l : List Frame). Beside Figure (l ++ fs) (outs (multipliedStep r) 0 freshMachine fs)) (waiting-first (r .ahead)) (from-past 0 [] fs)
+  each-bounded fs = subst (λ (l : List Frame). Beside (Figure (r .limit)) (l ++ fs) (outs (multipliedStep r) 0 freshMachine fs)) (waiting-first (r .ahead)) (from-past 0 [] fs)
 
-  machine-within : (fs : List Frame) → All ModerateFrame fs → All (WithinFrame (r .limit)) (outs (multipliedStep r) 0 freshMachine fs)
-  machine-within fs a =
-      all-beside ModerateFrame (WithinFrame (r .limit)) (replicate (r .ahead) silence ++ fs) (outs (multipliedStep r) 0 freshMachine fs) (each-within fs)
+  machine-bounded : (fs : List Frame) → All ModerateFrame fs → All (FrameBound (r .limit)) (outs (multipliedStep r) 0 freshMachine fs)
+  machine-bounded fs a =
+      all-beside ModerateFrame (FrameBound (r .limit)) (replicate (r .ahead) silence ++ fs) (outs (multipliedStep r) 0 freshMachine fs) (each-bounded fs)
       (all-append ModerateFrame (replicate (r .ahead) silence) fs (moderate-silence (r .ahead)) a)
       (omega (arith, outs-length (multipliedStep r) 0 freshMachine fs, length-append (replicate (r .ahead) silence) fs))
 
@@ -154,17 +151,17 @@ module _ (r : CeilingRate) (usable : Usable r) (sheet : SheetUsable r) where
   pub sheet-value-at : SheetValueAt r
   sheet-value-at =
       record {
-        machine = machine-within;
-        kept = λ samples counts sized fs a. subst⁻¹ (All (WithinFrame (r .limit))) (same-multiplied r usable (ceilingFresh r samples counts) (fresh-is r samples counts sized) fs) (machine-within fs a);
-        each = each-within;
+        machine = machine-bounded;
+        kept = λ samples counts sized fs a. subst⁻¹ (All (FrameBound (r .limit))) (same-multiplied r usable (ceilingFresh r samples counts) (fresh-is r samples counts sized) fs) (machine-bounded fs a);
+        each = each-bounded;
       }
 
 -- E11
 pub sheet-value : SheetValue
 sheet-value =
     record {
-      at-44100 = sheet-value-at (ceilingRate 44100) usable-44100 sheet-usable-44100;
-      at-48000 = sheet-value-at (ceilingRate 48000) usable-48000 sheet-usable-48000;
+      at-44100 = sheet-value-at (ceilingRate 44100) usable-44100 sheet-value-usable-44100;
+      at-48000 = sheet-value-at (ceilingRate 48000) usable-48000 sheet-value-usable-48000;
       above-44100 = above .0;
       above-48000 = above .1;
     }

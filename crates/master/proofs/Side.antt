@@ -15,13 +15,13 @@ use Rattle.casts.specs.Arithmetic.{_⊗_, two}
 use Rattle.rate.specs.Ceiling.{plain}
 use Rattle.rate.specs.declared.CeilingRate.{CeilingRate}
 use Rattle.master.specs.Ceiling.{gainOf}
-use Rattle.master.specs.SheetValue.{Within}
+use Rattle.master.specs.SheetValue.{SideBound}
 use Rattle.casts.proofs.Error.{round-error, round-neg}
 use Rattle.master.proofs.Under.{gain-under}
 use Rattle.master.proofs.Sizes.{plain-finite, round-plain}
 use Rattle.master.proofs.Peak.{Needed}
 
--- ---- four fractions: |side| ≤ peak, gain ≤ need, and need * peak ≤ limit * T' / T, so |side| * gain ≤ limit * T' / T
+-- ---- four fractions: |side| ≤ peak, gain ≤ need, and need * peak ≤ limit * u / t, so |side| * gain ≤ limit * u / t
 chained : (X x P p G g N n L l t u : ℕ) → 0 < p → 0 < n → X * p ≤ P * x → G * n ≤ N * g → N * (P * l * t) ≤ L * p * u * n → X * G * (l * t) ≤ L * u * (x * g)
 chained X x P p G g N n L l t u pp np h k e =
     let a : X * G * (l * t) * (p * n) ≡ X * p * (G * n) * (l * t) = simp (mul-assoc, mul-comm, mul-left-comm) in
@@ -31,7 +31,7 @@ chained X x P p G g N n L l t u pp np h k e =
     (le-trans (le-of-eq a) (le-trans (mul-le-mul-right (l * t) (mul-le-mul h k)) (le-trans (le-of-eq b) (le-trans (mul-le-mul-right (x * g) e) (le-of-eq c)))))
     (mul-pos pp np)
 
--- Y ≤ S ≤ limit * (T' / T) ^ 2 and (T' / T) ^ 2 ≤ F' / F, so Y ≤ limit * F' / F
+-- Y / y ≤ S / s ≤ limit * (u / t) ^ 2 and (u / t) ^ 2 ≤ H / F, so Y / y ≤ limit * H / F
 ended : (Y y S s L l t u F H : ℕ) → 0 < s → 0 < t → Y * s ≤ S * y → S * (l * t * t) ≤ L * u * u * s → u * u * F ≤ H * (t * t) → Y * F * l ≤ L * H * y
 ended Y y S s L l t u F H sp tp h k e =
     let a : Y * F * l * (s * (t * t)) ≡ Y * s * (F * l * (t * t)) = simp (mul-assoc, mul-comm, mul-left-comm) in
@@ -44,22 +44,22 @@ ended Y y S s L l t u F H sp tp h k e =
     (mul-pos sp (mul-pos tp tp))
 
 -- ---- the size of a product
-negated : (limit y : Float) → Within limit y → Within limit (neg y)
+negated : (limit y : Float) → SideBound limit y → SideBound limit (neg y)
 unfolding neg
 negated limit nan w = w
 negated limit (inf s) w = absurd (w .is-finite)
 negated limit (fin s m e) w = record { is-finite = tt; size = w .size }
 
-product-within : (limit x g : Float) → T (finite x) → T (plain g) → Within limit (round binary64 false (num x * num g) (den x * den g)) → Within limit (x ⊗ g)
+product-bounded : (limit x g : Float) → T (finite x) → T (plain g) → SideBound limit (round binary64 false (num x * num g) (den x * den g)) → SideBound limit (x ⊗ g)
 unfolding mul
-product-within limit nan g p q w = absurd p
-product-within limit (inf s) g p q w = absurd p
-product-within limit (fin s m e) nan p q w = absurd q
-product-within limit (fin s m e) (inf t) p q w = absurd q
-product-within limit (fin s m e) (fin true n d) p q w = absurd q
-product-within limit (fin false m e) (fin false n d) p q w = w
-product-within limit (fin true m e) (fin false n d) p q w =
-    subst (λ (y : Float). Within limit y) (sym (round-neg binary64 (m * up e * (n * up d)) (down e * down d))) (negated limit (round binary64 false (m * up e * (n * up d)) (down e * down d)) w)
+product-bounded limit nan g p q w = absurd p
+product-bounded limit (inf s) g p q w = absurd p
+product-bounded limit (fin s m e) nan p q w = absurd q
+product-bounded limit (fin s m e) (inf t) p q w = absurd q
+product-bounded limit (fin s m e) (fin true n d) p q w = absurd q
+product-bounded limit (fin false m e) (fin false n d) p q w = w
+product-bounded limit (fin true m e) (fin false n d) p q w =
+    subst (λ (y : Float). SideBound limit y) (sym (round-neg binary64 (m * up e * (n * up d)) (down e * down d))) (negated limit (round binary64 false (m * up e * (n * up d)) (down e * down d)) w)
 
 round-two : round binary64 false 2 1 ≡ two
 unfolding round ofBits
@@ -73,9 +73,9 @@ module _ (limit : Float) (is-plain : T (plain limit)) (low : den limit ≤ num l
   abbrev l : ℕ
   l = den limit
 
-  rounded-within : (a c : ℕ) → 0 < c → a * (l * 2 ^ 53) ≤ L * suc (2 ^ 53) * c → Within limit (round binary64 false a c)
+  rounded-bounded : (a c : ℕ) → 0 < c → a * (l * 2 ^ 53) ≤ L * suc (2 ^ 53) * c → SideBound limit (round binary64 false a c)
   unfolding ofBits
-  rounded-within a c C h =
+  rounded-bounded a c C h =
       let A = L * suc (2 ^ 53) in
       let B = l * 2 ^ 53 in
       let bp : 0 < B = mul-pos (den-pos limit) (pow-pos 53) in
@@ -107,14 +107,14 @@ module _ (limit : Float) (is-plain : T (plain limit)) (low : den limit ≤ num l
           over L a b = simp (mul-assoc, mul-comm)
 
   -- ---- a side
-  pub side-within : (r : CeilingRate) → suc (r .ahead) ≤ 2 ^ 13 → (P p count : ℕ) (x need : Float) → 0 < p → T (finite x) → num x * p ≤ P * den x → Needed L l P p need → count ≤ suc (r .ahead) * stepOf need
-      → Within limit (x ⊗ gainOf r count)
-  side-within r few P p count x nan pp F h n c = absurd (n .is-plain)
-  side-within r few P p count x (inf s) pp F h n c = absurd (n .is-plain)
-  side-within r few P p count x (fin true m e) pp F h n c = absurd (n .is-plain)
-  side-within r few P p count x (fin false m e) pp F h n c =
+  pub side-bounded : (r : CeilingRate) → suc (r .ahead) ≤ 2 ^ 13 → (P p count : ℕ) (x need : Float) → 0 < p → T (finite x) → num x * p ≤ P * den x → Needed L l P p need → count ≤ suc (r .ahead) * stepOf need
+      → SideBound limit (x ⊗ gainOf r count)
+  side-bounded r few P p count x nan pp F h n c = absurd (n .is-plain)
+  side-bounded r few P p count x (inf s) pp F h n c = absurd (n .is-plain)
+  side-bounded r few P p count x (fin true m e) pp F h n c = absurd (n .is-plain)
+  side-bounded r few P p count x (fin false m e) pp F h n c =
       let g = gainOf r count in
       let u = gain-under r few count m e (n .is-held) (n .at-most-one) c in
-      product-within limit x g F (u .0)
-      (rounded-within (num x * num g) (den x * den g) (mul-pos (den-pos x) (den-pos g))
+      product-bounded limit x g F (u .0)
+      (rounded-bounded (num x * num g) (den x * den g) (mul-pos (den-pos x) (den-pos g))
       (chained (num x) (den x) P p (num g) (den g) (m * up e) (down e) L l (2 ^ 53) (suc (2 ^ 53)) pp (down-pos e) h (u .1) (n .product)))

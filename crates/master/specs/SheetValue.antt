@@ -25,33 +25,37 @@ pub record ModerateFrame (f : Frame) : Type 0 where
   pub left : Moderate (f .left)
   pub right : Moderate (f .right)
 
--- "|side| · 2^51 ≤ limit · (2^51 + 1)": both times den side · den limit
-pub record Within (limit side : Float) : Type 0 where
+-- "|side| · 2^51 ≤ limit · (2^51 + 1)", each side of ≤ multiplied by den side · den limit; a limit has no sign
+pub record SideBound (limit side : Float) : Type 0 where
   pub is-finite : T (finite side)
   pub size : num side * 2 ^ 51 * den limit ≤ num limit * (2 ^ 51 + 1) * den side
 
-pub record WithinFrame (limit : Float) (s : Multiplied) : Type 0 where
-  pub left : Within limit (s .left)
-  pub right : Within limit (s .right)
+pub record FrameBound (limit : Float) (m : Multiplied) : Type 0 where
+  pub left : SideBound limit (m .left)
+  pub right : SideBound limit (m .right)
+
+-- "a figure before the clamp", of one frame and what it is delivered as
+abbrev pub Figure : Float → Frame → Multiplied → Type 0
+Figure limit f m = ModerateFrame f → FrameBound limit m
 
 -- "For every list of frames from a fresh ceiling whose sides are finite and at most 2^100 in size, each delivered side, before narrowing and clamping, has |side| · 2^51 ≤ limit · (2^51 + 1)."
 pub record SheetValueAt (r : CeilingRate) : Type 0 where
   -- of the machine
-  pub machine : (fs : List Frame) → All ModerateFrame fs → All (WithinFrame (r .limit)) (outs (multipliedStep r) 0 freshMachine fs)
+  pub machine : (fs : List Frame) → All ModerateFrame fs → All (FrameBound (r .limit)) (outs (multipliedStep r) 0 freshMachine fs)
   -- of the ceiling as it is kept, from what open lays in parts of the stores that held anything
   pub kept : (samples : List Float) (counts : List ℕ) → Sized r samples counts
-      → (fs : List Frame) → All ModerateFrame fs → All (WithinFrame (r .limit)) (outs (multipliedStepOn r) 0 (ceilingFresh r samples counts) fs)
-  -- and more: of each frame by itself, beside the one `ahead` back that it comes from, whatever the other frames hold
-  pub each : (fs : List Frame) → Beside (λ f s. ModerateFrame f → WithinFrame (r .limit) s) (replicate (r .ahead) silence ++ fs) (outs (multipliedStep r) 0 freshMachine fs)
+      → (fs : List Frame) → All ModerateFrame fs → All (FrameBound (r .limit)) (outs (multipliedStepOn r) 0 (ceilingFresh r samples counts) fs)
+  -- and more: of each delivered frame by itself, beside the one `ahead` back that it comes from, whatever the other frames hold
+  pub each : (fs : List Frame) → Beside (Figure (r .limit)) (replicate (r .ahead) silence ++ fs) (outs (multipliedStep r) 0 freshMachine fs)
 
 -- That the limit itself is no such bound: a frame with 1.1362060345226561 on the right, and silence until it is delivered, above the limit
-abbrev pub peak : Frame
-peak = record { left = nought; right = ofBits binary64 0x3ff2_2de6_60fc_aeb7 }
+abbrev pub aboveFrame : Frame
+aboveFrame = record { left = nought; right = ofBits binary64 0x3ff2_2de6_60fc_aeb7 }
 
 abbrev pub AboveLimit : CeilingRate → Type 0
 AboveLimit r =
     let nothing : Multiplied = record { left = nought; right = nought; count = 0 } in
-    T (lt (r .limit) (getD (outs (multipliedStep r) 0 freshMachine (peak ∷ replicate (r .ahead) silence)) (r .ahead) nothing .right))
+    T (lt (r .limit) (getD (outs (multipliedStep r) 0 freshMachine (aboveFrame ∷ replicate (r .ahead) silence)) (r .ahead) nothing .right))
 
 -- E11: "It is to hold at both rates."
 pub record SheetValue : Type 0 where

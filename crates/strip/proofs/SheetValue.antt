@@ -7,12 +7,12 @@ use Rattle.stage.specs.Stage.{All}
 use Rattle.stage.proofs.Laws.{outs-take, outs-mapped}
 use Rattle.rate.specs.declared.Rate.{Rate}
 use Rattle.rate.specs.Rate.{rateOf, RateUsable}
-use Rattle.rate.specs.Ceiling.{SheetUsable}
-use Rattle.rate.proofs.Rates.{usable-44100, sheet-usable-44100}
+use Rattle.rate.specs.Ceiling.{SheetValueUsable}
+use Rattle.rate.proofs.Rates.{usable-44100, sheet-value-usable-44100}
 use Rattle.tape.specs.Tape.{Lists}
 use Rattle.master.specs.Ceiling.{freshMachine, multipliedStep, delivered, ceilingStep}
 use Rattle.master.specs.Kept.{framesOut, countsOut}
-use Rattle.master.specs.SheetValue.{WithinFrame}
+use Rattle.master.specs.SheetValue.{FrameBound}
 use Rattle.master.proofs.SheetValue.{sheet-value-at}
 use Rattle.strip.specs.declared.Setup.{Setup}
 use Rattle.strip.specs.Machine.{fresh, heardFrom}
@@ -30,7 +30,7 @@ heard-delivered r s l cs =
     ∙ outs-mapped (multipliedStep (r .ceiling)) (delivered (r .ceiling)) 0 freshMachine (mixedFrom r (fresh r s l) (joinedEvents 0 cs))
 
 -- answers that are the machine's hold all that is claimed of them
-pub sheet-value-of : (r : Rate) → RateUsable r → SheetUsable (r .ceiling) → (s : Setup) (l : Lists) (cs : List Call) (answers : List Answer) → answers ≡ expected r (fresh r s l) cs
+pub sheet-value-of : (r : Rate) → RateUsable r → SheetValueUsable (r .ceiling) → (s : Setup) (l : Lists) (cs : List Call) (answers : List Answer) → answers ≡ expected r (fresh r s l) cs
     → SheetValueOf r s l cs answers
 unfolding joinedMultiplied
 sheet-value-of r u v s l cs answers e =
@@ -42,15 +42,15 @@ sheet-value-of r u v s l cs answers e =
       counts = j .counts ∙ ap countsOut h;
       so-far =
           λ (k : ℕ) a.
-          subst⁻¹ (All (WithinFrame (r .ceiling .limit))) (outs-take (multipliedStep (r .ceiling)) k 0 freshMachine (joinedMixed r s l cs))
+          subst⁻¹ (All (FrameBound (r .ceiling .limit))) (outs-take (multipliedStep (r .ceiling)) k 0 freshMachine (joinedMixed r s l cs))
           (w .machine (take k (joinedMixed r s l cs)) a);
       each = w .each (joinedMixed r s l cs);
     }
 
-pub sheet-value-at-rate : (r : Rate) → RateUsable r → SheetUsable (r .ceiling) → JoinedSheetValueAt r
+pub sheet-value-at-rate : (r : Rate) → RateUsable r → SheetValueUsable (r .ceiling) → JoinedSheetValueAt r
 unfolding JoinedSheetValueAt
 sheet-value-at-rate r u v s l store counts t e cs = sheet-value-of r u v s l cs _ (answered r u s l store counts t e cs)
 
 -- E11, of every list of calls
 pub joined-sheet-value : JoinedSheetValue
-joined-sheet-value = record { at-44100 = sheet-value-at-rate (rateOf 44100) usable-44100 sheet-usable-44100 }
+joined-sheet-value = record { at-44100 = sheet-value-at-rate (rateOf 44100) usable-44100 sheet-value-usable-44100 }

@@ -1,5 +1,5 @@
 -- 02, E11, "The ceiling's sheet value", where a buyer meets it: of the frames that a list of calls delivers, at the rate that is sold.
--- The claim is `JoinedSheetValue`, which takes no argument; `joined-sheet-value` in proofs/SheetValue.antt is a term of it. Moderate and Within are crate master's.
+-- The claim is `JoinedSheetValue`, which takes no argument; `joined-sheet-value` in proofs/SheetValue.antt is a term of it. What is moderate, and the bound, are crate master's.
 use Prim.Native.Nat.{ℕ}
 use mathlib.Core.Path.{_≡_}
 use mathlib.Core.List.{List, _++_, map}
@@ -11,7 +11,7 @@ use Rattle.rate.specs.Rate.{rateOf}
 use Rattle.tape.specs.Tape.{Lists}
 use Rattle.master.specs.Ceiling.{freshMachine, silence, Multiplied, multipliedStep, delivered}
 use Rattle.master.specs.Kept.{framesOut, countsOut}
-use Rattle.master.specs.SheetValue.{ModerateFrame, WithinFrame}
+use Rattle.master.specs.SheetValue.{ModerateFrame, FrameBound, Figure}
 use Rattle.strip.specs.declared.Setup.{Setup}
 use Rattle.strip.specs.Machine.{fresh}
 use Rattle.strip.specs.Promise.{Call, Answer, joinedFrames, joinedCounts, joinedEvents, mixedFrom, EveryList}
@@ -29,10 +29,10 @@ pub record SheetValueOf (r : Rate) (s : Setup) (l : Lists) (cs : List Call) (ans
   -- the joined frames and counts are these sides, narrowed and clamped, and their counts
   pub frames : joinedFrames answers ≡ framesOut (map (delivered (r .ceiling)) (joinedMultiplied r s l cs))
   pub counts : joinedCounts answers ≡ countsOut (map (delivered (r .ceiling)) (joinedMultiplied r s l cs))
-  -- while every mixed frame so far, k of them, is finite and at most 2^100 on both sides, so far "|side| · 2^51 ≤ limit · (2^51 + 1)"
-  pub so-far : (k : ℕ) → All ModerateFrame (take k (joinedMixed r s l cs)) → All (WithinFrame (r .ceiling .limit)) (take k (joinedMultiplied r s l cs))
+  -- while the first k mixed frames are finite and at most 2^100 on both sides, the first k joined frames, before narrowing and clamping, have "|side| · 2^51 ≤ limit · (2^51 + 1)"
+  pub so-far : (k : ℕ) → All ModerateFrame (take k (joinedMixed r s l cs)) → All (FrameBound (r .ceiling .limit)) (take k (joinedMultiplied r s l cs))
   -- and more: of each joined frame by itself, beside the mixed frame 220 back that it comes from, whatever the others hold
-  pub each : Beside (λ f side. ModerateFrame f → WithinFrame (r .ceiling .limit) side) (replicate (r .ceiling .ahead) silence ++ joinedMixed r s l cs) (joinedMultiplied r s l cs)
+  pub each : Beside (Figure (r .ceiling .limit)) (replicate (r .ceiling .ahead) silence ++ joinedMixed r s l cs) (joinedMultiplied r s l cs)
 
 unfoldable pub JoinedSheetValueAt : Rate → Type 0
 JoinedSheetValueAt r = EveryList r (SheetValueOf r)

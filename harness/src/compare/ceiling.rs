@@ -20,8 +20,11 @@ const GAIN_OF_ONE: u64 = 221 << 40;
 const OTHER_RATE: u32 = 48_000;
 const OTHER_AHEAD: usize = 240;
 
-/// "finite and at most 2^100 in size"
-const MODERATE: f64 = (1u128 << 100) as f64;
+/// E11's "finite and at most 2^100 in size".
+const TWO_TO_100: f64 = (1u128 << 100) as f64;
+
+/// A side that comes out one f64 above the limit, before it is narrowed and clamped.
+const PASSING: f64 = 1.1362060345226561;
 
 #[derive(Clone, Debug)]
 struct Case {
@@ -53,22 +56,33 @@ fn limit() -> f64 {
     f64::from(Ceiling::new(RATE).clamp(f64::INFINITY))
 }
 
-/// A steady tone, or a level held, whose peaks stand at the limit, one f64 to either side of it, far above, or where the need
-/// is a whole number of steps, so that the gain is the need itself.
+/// A level whose need is a whole number of steps, so that the gain is the need itself, and whose product with it passes the limit.
+fn passing(rng: &mut Rng, limit: f64) -> f64 {
+    loop {
+        let need = rng.within(1 << 20, 1 << 40) as f64 / (1u64 << 40) as f64;
+        let level = limit / need;
+        if limit / level == need && level * need > limit {
+            return level;
+        }
+    }
+}
+
+/// A steady tone, or a level held, whose peaks stand at the limit, one f64 to either side of it, far above, or where they pass it.
 fn steady(rng: &mut Rng, len: usize) -> Signal {
     let limit = limit();
-    let even = limit / (rng.within(1 << 20, 1 << 40) as f64 / (1u64 << 40) as f64);
-    let level = rng.pick(&[limit, limit.next_up(), limit.next_down(), 2.0 * limit, MODERATE, even, even, even]);
+    let passing = passing(rng, limit);
+    let level = rng.pick(&[limit, limit.next_up(), limit.next_down(), 2.0 * limit, TWO_TO_100, passing, passing]);
     let turn = rng.between(0.0, 3.0);
     let step = rng.pick(&[0.0, std::f64::consts::PI, turn]);
     Signal((0..len).map(|i| level * (step * i as f64).cos()).collect())
 }
 
-/// Sizes within three f64 of the limit, and among them spikes of up to 2^100.
+/// Sizes within three f64 of the limit, and among them spikes of up to 2^100. Those above 2^40 need a gain of less than a step, and silence what follows.
 fn spiked(rng: &mut Rng, len: usize) -> Signal {
     let limit = limit();
     let apart = rng.scaled(2.0, 4000.0) as u64;
-    let size = |rng: &mut Rng| if rng.flag() { rng.scaled(1.0, MODERATE) } else { MODERATE };
+    let most = rng.pick(&[4.0, (1u64 << 40) as f64, TWO_TO_100]);
+    let size = |rng: &mut Rng| if rng.flag() { rng.scaled(1.0, most) } else { most };
     let mut side = |_| {
         let x = if rng.once_in(apart) { size(rng) } else { rng.near(limit) };
         rng.pick(&[x, -x])
@@ -87,10 +101,10 @@ fn exactly(x: f64) -> (u128, i32) {
 fn within(side: f64, limit: f64) -> bool {
     let (s, e) = exactly(side);
     let (l, f) = exactly(limit);
-    let (ours, most) = (s << 51, l * ((1 << 51) + 1));
+    let (size, most) = (s << 51, l * ((1 << 51) + 1));
     let up = (e - f).max(0) as u32;
     let down = (f - e).clamp(0, 127) as u32;
-    side.is_finite() && ours.leading_zeros() >= up && (ours << up).div_ceil(1 << down) <= most
+    side.is_finite() && size.leading_zeros() >= up && (size << up).div_ceil(1 << down) <= most
 }
 
 /// The frames that the delivered ones come from: silence, and then those that came in.
@@ -101,7 +115,7 @@ fn late(frames: &[[f64; 2]], ahead: usize) -> Vec<[f64; 2]> {
 /// Where a side first passes E11's bound, of those that come from a frame that is finite and at most 2^100.
 fn beyond(late: &[[f64; 2]], sides: &[[f64; 2]]) -> Option<String> {
     let limit = limit();
-    let moderate = |frame: &[f64; 2]| frame.iter().all(|side| side.abs() <= MODERATE);
+    let moderate = |frame: &[f64; 2]| frame.iter().all(|side| side.abs() <= TWO_TO_100);
     let passes = |(frame, sides): &(&[f64; 2], &[f64; 2])| moderate(frame) && !sides.iter().all(|&side| within(side, limit));
     let (at, (frame, sides)) = late.iter().zip(sides).enumerate().find(|(_, one)| passes(one))?;
     Some(format!("before the clamp {at}: {sides:?} of {frame:?} passes 02's bound"))
@@ -125,7 +139,7 @@ impl List for Case {
         "a release",
         "a NaN",
         "more frames than the window",
-        "a spike of 2^100",
+        "a size of 2^100",
         "one f64 above the limit",
         "one f64 below it",
         "before the clamp, above the limit",
@@ -155,18 +169,18 @@ impl List for Case {
         let frames: Vec<f32> = sides.iter().flatten().map(|&side| clamping.clamp(side)).collect();
         let behind = late(&all, AHEAD);
         let gain = |count: u64| count as f64 / GAIN_OF_ONE as f64;
-        let ours: Vec<f64> = behind.iter().zip(&our_gains).flat_map(|(f, &c)| f.map(|side| side * gain(c))).collect();
+        let by_01: Vec<f64> = behind.iter().zip(&our_gains).flat_map(|(f, &c)| f.map(|side| side * gain(c))).collect();
         let limit = limit();
         met.note("a gain below 1", gains.iter().any(|&count| count < GAIN_OF_ONE));
         met.note("a release", gains.windows(2).any(|two| two[0] < two[1]));
         met.note("a NaN", frames.iter().any(|side| side.is_nan()));
         met.note("more frames than the window", gains.len() > 882);
-        met.note("a spike of 2^100", self.left.contains(&MODERATE));
+        met.note("a size of 2^100", self.left.contains(&TWO_TO_100));
         met.note("one f64 above the limit", self.left.contains(&limit.next_up()));
         met.note("one f64 below it", self.left.contains(&limit.next_down()));
         met.note("before the clamp, above the limit", sides.iter().flatten().any(|side| side.abs() > limit));
         lists::first("gain count", &our_gains, &gains)
-            .or_else(|| lists::first("side before the clamp", &ours, sides.as_flattened()))
+            .or_else(|| lists::first("side before the clamp, by 01 and the part's count,", &by_01, sides.as_flattened()))
             .or_else(|| lists::first("side", &our_frames, &frames))
             .or_else(|| beyond(&behind, &sides))
             .or_else(|| beyond(&late(&all, OTHER_AHEAD), &oracle(&all, OTHER_RATE).0))
@@ -197,6 +211,17 @@ impl Shrink for Case {
     }
 }
 
+/// That E11's bound is needed: at either rate the Rust delivers a side above the limit itself.
+fn shown(ahead: usize, rate: u32) -> bool {
+    let mut frames = vec![[0.0; 2]; ahead + 1];
+    frames[0][1] = PASSING;
+    oracle(&frames, rate).0[ahead][1] > limit()
+}
+
 pub fn run(rng: &mut Rng, budget: Budget) -> Report {
-    lists::run::<Case>(rng, budget)
+    let mut report = lists::run::<Case>(rng, budget);
+    if !shown(AHEAD, RATE) || !shown(OTHER_AHEAD, OTHER_RATE) {
+        report.differs(1, format!("a frame (0, {PASSING:?}) and silence: no side above the limit"));
+    }
+    report
 }
