@@ -11,6 +11,7 @@ pub mod Sizes
 pub mod Under
 pub mod Peak
 pub mod Side
+pub mod Unclamped
 pub mod AboveLimit
 pub mod SheetValue
 pub mod Cases

@@ -29,6 +29,7 @@ use Rattle.master.proofs.Opening.{fresh-is}
 use Rattle.master.proofs.Sizes.{plain-nonnegative, le-sizes}
 use Rattle.master.proofs.Peak.{Peaked, peaked, Needed, needed}
 use Rattle.master.proofs.Side.{side-bounded}
+use Rattle.master.proofs.Unclamped.{unclamped-by}
 use Rattle.master.proofs.AboveLimit.{above}
 
 -- ---- silence
@@ -154,6 +155,7 @@ module _ (r : CeilingRate) (usable : Usable r) (besides : SheetValueUsable r) wh
         machine = machine-bounded;
         kept = λ samples counts sized fs a. subst⁻¹ (All (FrameBound (r .limit))) (same-multiplied r usable (ceilingFresh r samples counts) (fresh-is r samples counts sized) fs) (machine-bounded fs a);
         each = each-bounded;
+        unclamped = unclamped-by (r .limit) (usable .limit-plain) (besides .limit-narrows);
       }
 
 -- E11

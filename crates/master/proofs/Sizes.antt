@@ -46,7 +46,7 @@ le-sizes (fin false m e) (fin false n d) p q h = le-says false (m * up e * down 
 le-sizes (fin false m e) (fin true n d) p q h = le-trans (le-of-eq (le-says false (m * up e * down d) true (n * up d * down e) h .0)) zero-le
 le-sizes (fin true m e) (fin t n d) p q h = le-trans (le-of-eq (none m (up e) (down d) p)) zero-le
 
-plain-under : (y z : Float) → T (unsigned y) → T (plain z) → T (le y z) → T (plain y)
+pub plain-under : (y z : Float) → T (unsigned y) → T (plain z) → T (le y z) → T (plain y)
 unfolding le
 plain-under nan z u p h = absurd u
 plain-under (inf true) z u p h = absurd u

@@ -1,5 +1,6 @@
 -- 02, E11, "The ceiling's sheet value": "Buyers of small coils want a figure before the clamp." The claim is `SheetValue`, which takes no argument; `sheet-value` in proofs/SheetValue.antt is a term of it.
 -- "Both sides of this are exact values over whole numbers": a finite value's size is num / den, a fraction of whole numbers (the kit's lib.Ieee.Positive).
+use mathlib.Core.Path.{_≡_}
 use Prim.Native.Nat.{ℕ, _+_, _*_, _^_, _≤_}
 use mathlib.Core.List.{List, _∷_, _++_}
 use lib.Dec.{T}
@@ -8,11 +9,12 @@ use lib.Ieee.{Float, binary64, lt, ofBits}
 use lib.Ieee.Scale.{finite}
 use lib.Ieee.Positive.{num, den}
 use Rattle.casts.specs.Arithmetic.{nought}
+use Rattle.casts.specs.Cast.{narrowed}
 use Rattle.stage.specs.Stage.{outs, All, Beside}
 use Rattle.rate.specs.declared.CeilingRate.{CeilingRate}
 use Rattle.rate.specs.Ceiling.{ceilingRate}
 use Rattle.stream.specs.declared.Frame.{Frame}
-use Rattle.master.specs.Ceiling.{freshMachine, silence, Multiplied, multipliedStep}
+use Rattle.master.specs.Ceiling.{freshMachine, silence, Multiplied, multipliedStep, clamped}
 use Rattle.master.specs.Kept.{multipliedStepOn, ceilingFresh}
 use Rattle.master.specs.WellFormed.{Sized}
 
@@ -47,6 +49,8 @@ pub record SheetValueAt (r : CeilingRate) : Type 0 where
       → (fs : List Frame) → All ModerateFrame fs → All (FrameBound (r .limit)) (outs (multipliedStepOn r) 0 (ceilingFresh r samples counts) fs)
   -- and more: of each delivered frame by itself, beside the one `ahead` back that it comes from, whatever the other frames hold
   pub each : (fs : List Frame) → Beside (Figure (r .limit)) (replicate (r .ahead) silence ++ fs) (outs (multipliedStep r) 0 freshMachine fs)
+  -- and so the clamp alters none of these sides
+  pub unclamped : (side : Float) → SideBound (r .limit) side → clamped (r .limit) (narrowed side) ≡ narrowed side
 
 -- That the limit itself is no such bound: a frame with 1.1362060345226561 on the right, and silence until it is delivered, above the limit
 abbrev pub aboveFrame : Frame

@@ -112,11 +112,12 @@ fn late(frames: &[[f64; 2]], ahead: usize) -> Vec<[f64; 2]> {
     std::iter::repeat_n([0.0; 2], ahead).chain(frames.iter().copied()).take(frames.len()).collect()
 }
 
-/// Where a side first passes E11's bound, of those that come from a frame that is finite and at most 2^100.
+/// Where a side first passes E11's bound, or would be altered by the clamp, of those that come from a frame that is finite and at most 2^100.
 fn beyond(late: &[[f64; 2]], sides: &[[f64; 2]]) -> Option<String> {
     let limit = limit();
     let moderate = |frame: &[f64; 2]| frame.iter().all(|side| side.abs() <= TWO_TO_100);
-    let passes = |(frame, sides): &(&[f64; 2], &[f64; 2])| moderate(frame) && !sides.iter().all(|&side| within(side, limit));
+    let held = |side: f64| within(side, limit) && f64::from(side as f32).abs() <= limit;
+    let passes = |(frame, sides): &(&[f64; 2], &[f64; 2])| moderate(frame) && !sides.iter().all(|&side| held(side));
     let (at, (frame, sides)) = late.iter().zip(sides).enumerate().find(|(_, one)| passes(one))?;
     Some(format!("before the clamp {at}: {sides:?} of {frame:?} passes 02's bound"))
 }
