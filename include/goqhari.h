@@ -54,7 +54,8 @@ extern "C" {
 #define GOQHARI_LATENCY 220
 /* A gain is its count over this, 221 * 2^40. */
 #define GOQHARI_GAIN_UNIT UINT64_C(242992069738496)
-/* What no delivered side exceeds in size, a NaN apart. Before the clamp no side exceeds it by more than one part in 2^51 (docs/DATASHEET.md, 'before the clamp'). */
+/* What no delivered side exceeds in size, a NaN apart. Before the clamp no side exceeds it by more than one part in 2^51 where it comes from a mixed frame
+   that is finite and at most 2^100 (docs/DATASHEET.md, 'before the clamp'). */
 #define GOQHARI_CEILING 0.8912509f
 
 /* ---- answers */

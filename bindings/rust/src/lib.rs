@@ -39,8 +39,8 @@ pub const STORE_COUNTS: usize = 4_096;
 pub const MAX_POSITION: u64 = 1 << 32;
 /// The gain count at which the ceiling leaves a frame as it is.
 pub const GAIN_UNIT: u64 = 221 << 40;
-/// The ceiling, -1 dBFS: no side that is delivered is larger, and before the clamp none by more than one part in 2^51
-/// (docs/DATASHEET.md, 'before the clamp').
+/// The ceiling, -1 dBFS: no side that is delivered is larger, a NaN apart. Before the clamp none is larger by more than one
+/// part in 2^51 where it comes from a mixed frame that is finite and at most 2^100 (docs/DATASHEET.md, 'before the clamp').
 pub const CEILING: f32 = 0.891_250_9;
 
 /// The f64 of a packed strip, GOQHARI_NUMBERS of the header.

@@ -25,6 +25,7 @@ use Rattle.rate.specs.Ceiling.{unit, plain, Usable}
 use Rattle.rate.specs.declared.CeilingRate.{CeilingRate}
 use Rattle.stream.specs.declared.Frame.{Frame}
 use Rattle.master.specs.Ceiling.{silence, peakOf, needFor, needOf, least, leastOf, heldOf, lastOf, total, CeilingMachine, freshMachine, releasedOf, taken}
+use Rattle.master.proofs.Sizes.{none, under-one, round-one}
 
 -- after each of a list of frames, newest first
 unfoldable pub after : CeilingRate → List Frame → CeilingMachine
@@ -51,21 +52,14 @@ round-zero : round binary64 false 0 1 ≡ nought
 unfolding round ofBits
 round-zero = refl
 
-round-one : round binary64 false 1 1 ≡ one
-unfolding round ofBits
-round-one = refl
-
 quotient : (a b : ℕ) → a < b → Gain (round binary64 false a b)
 quotient a b h = (
   subst (λ (x : Float). T (le x (round binary64 false a b))) round-zero (round-mono binary64 0 1 a b (omega arith) (omega arith) (low a b)),
-  subst (λ (x : Float). T (le (round binary64 false a b) x)) round-one (round-mono binary64 a b 1 1 (omega arith) (omega arith) (high a b h)),
+  subst (λ (x : Float). T (le (round binary64 false a b) x)) round-one (round-mono binary64 a b 1 1 (omega arith) (omega arith) (under-one a b h)),
 )
   where
     low : (a b : ℕ) → 0 * b ≤ a * 1
     low a b = omega arith
-
-    high : (a b : ℕ) → a < b → a * 1 ≤ 1 * b
-    high a b h = omega arith
 
 pub need-gain : (limit peak : Float) → T (plain limit) → Gain (needFor limit peak)
 unfolding needFor lt div ofBits
@@ -78,13 +72,13 @@ need-gain (fin false m e) (inf false) p = gain-nought
 need-gain (fin false m e) (fin true n d) p = gain-one
 need-gain (fin false m e) (fin false n d) p = go (ltb (m * up e * down d) (n * up d * down e)) (eqb n 0) (ltb→lt (m * up e * down d) (n * up d * down e)) (eqb→eq n 0)
   where
-    none : (n : ℕ) (a u v : ℕ) → n ≡ 0 → a < n * u * v → ⊥
-    none n a u v e h = not-suc-le-zero (subst (λ (x : ℕ). a < x) (ap (λ (x : ℕ). x * u * v) e ∙ ap (λ (x : ℕ). x * v) (zero-mul u) ∙ zero-mul v) h)
+    not-below-none : (n : ℕ) (a u v : ℕ) → n ≡ 0 → a < n * u * v → ⊥
+    not-below-none n a u v e h = not-suc-le-zero (subst (λ (x : ℕ). a < x) (none n u v e) h)
 
     go : (b c : Bool) → (T b → m * up e * down d < n * up d * down e) → (T c → n ≡ 0)
         → Gain (cond b (cond c (cond (eqb m 0) nan (inf false)) (round binary64 false (m * up e * down d) (n * up d * down e))) one)
     go false c h k = gain-one
-    go true true h k = absurd (none n (m * up e * down d) (up d) (down e) (k tt) (h tt))
+    go true true h k = absurd (not-below-none n (m * up e * down d) (up d) (down e) (k tt) (h tt))
     go true false h k = quotient (m * up e * down d) (n * up d * down e) (h tt)
 
 -- ---- a gain times the rise is not below 0

@@ -1,7 +1,7 @@
 -- A frame's peak and need, by exact sizes: neither side's size is above the peak, and need times peak is above the limit by at most one part in 2 ^ 53. Assumes nothing.
 use mathlib.Core.Path.{_≡_, refl, sym, ap, subst}
 use Prim.Native.Nat.{ℕ, suc, _+_, _*_, _^_, _≤_, _<_, zero-le}
-use native.Mathlib.Nat.{le-trans, le-of-eq, le-suc, lt-of-le-of-lt, mul-comm, mul-assoc, mul-left-comm, mul-one, one-mul, zero-mul, mul-le-mul, mul-le-mul-left, mul-pos}
+use native.Mathlib.Nat.{le-trans, le-of-eq, le-suc, lt-of-le-of-lt, mul-comm, mul-assoc, mul-left-comm, mul-one, one-mul, mul-le-mul, mul-le-mul-left, mul-pos}
 use native.Mathlib.Omega.{arith}
 use mathlib.Core.Bool.{Bool, true, false, not, cond, _||_}
 use lib.IntN.{ℤ}
@@ -18,7 +18,8 @@ use Rattle.stream.specs.declared.Frame.{Frame}
 use Rattle.master.specs.Ceiling.{sizeOf, largerOf, peakOf, needFor}
 use Rattle.master.specs.SheetValue.{Moderate}
 use Rattle.casts.proofs.Error.{round-error}
-use Rattle.master.proofs.Sizes.{NonNegative, nonnegative-clean, le-sizes, plain-finite, round-plain}
+use Rattle.master.proofs.Laws.{size-else}
+use Rattle.master.proofs.Sizes.{NonNegative, nonnegative-clean, plain-not-below, le-sizes, under-one, under-one→le, round-one, plain-finite, round-plain}
 use Rattle.master.proofs.Under.{div-at}
 
 -- ---- a side's size
@@ -31,14 +32,8 @@ size-of : (x : Float) → T (finite x) → SizeIs x (sizeOf x)
 unfolding sizeOf lt neg ofBits
 size-of nan h = absurd h
 size-of (inf s) h = absurd h
-size-of (fin false m e) h = go (ltb (m * up e * 1) (0 * down e)) (ltb→lt (m * up e * 1) (0 * down e))
-  where
-    no : (a d : ℕ) → a < 0 * d → ⊥
-    no a d h = omega (arith, zero-mul d)
-
-    go : (b : Bool) → (T b → m * up e * 1 < 0 * down e) → SizeIs (fin false m e) (cond b (fin true m e) (fin false m e))
-    go true k = absurd (no (m * up e * 1) (down e) (k tt))
-    go false k = record { nonnegative = tt; same-num = refl; same-den = refl }
+size-of (fin false m e) h =
+    subst (λ (y : Float). SizeIs (fin false m e) y) (size-else (fin false m e) (plain-not-below (fin false m e) tt)) (record { nonnegative = tt; same-num = refl; same-den = refl })
 size-of (fin true m e) h = go (ltb 0 (m * up e * 1 + 0 * down e)) (nltb→le 0 (m * up e * 1 + 0 * down e))
   where
     zero-left : (a b : ℕ) → a * 1 + b ≤ 0 → a ≡ 0
@@ -102,29 +97,19 @@ pub record Needed (L l P p : ℕ) (y : Float) : Type 0 where
   pub at-most-one : num y ≤ den y
   pub product : num y * (P * l * 2 ^ 53) ≤ L * p * suc (2 ^ 53) * den y
 
-round-one : round binary64 false 1 1 ≡ one
-unfolding round ofBits
-round-one = refl
-
 quotient : (L l P p : ℕ) → 0 < l → 0 < P → L * p < P * l → l ≤ L * 2 → P ≤ 2 ^ 100 * p → Needed L l P p (round binary64 false (L * p) (P * l))
 unfolding ofBits
 quotient L l P p lp pp over low high =
     let y = round binary64 false (L * p) (P * l) in
     let c : 0 < P * l = mul-pos pp lp in
-    let one-over : T (plain y) × (num y * 1 ≤ 1 * den y) = round-plain (L * p) (P * l) 1 1 one c (pow-pos 0) (one-sides (L * p) (P * l) over) round-one tt in
+    let one-over : T (plain y) × (num y * 1 ≤ 1 * den y) = round-plain (L * p) (P * l) 1 1 one c (pow-pos 0) (under-one (L * p) (P * l) over) round-one tt in
     record {
       is-plain = one-over .0;
       is-held = round-fits binary64 false (L * p) (P * l);
-      at-most-one = flat (num y) (den y) (one-over .1);
+      at-most-one = under-one→le (num y) (den y) (one-over .1);
       product = round-error binary64 (L * p) (P * l) c (normal-of-fraction binary64 (L * p) (P * l) c normal) (round-under binary64 (L * p) (P * l) (plain-finite y (one-over .0)));
     }
   where
-    one-sides : (a b : ℕ) → a < b → a * 1 ≤ 1 * b
-    one-sides a b h = omega arith
-
-    flat : (a b : ℕ) → a * 1 ≤ 1 * b → a ≤ b
-    flat a b h = omega arith
-
     -- P l ≤ L p 2 ^ 101
     product : P * l ≤ L * p * 2 ^ 101
     product = le-trans (mul-le-mul high low) (le-of-eq (turn (2 ^ 100) p L 2))

@@ -2,23 +2,23 @@
 use mathlib.Core.Path.{_≡_, refl, sym, ap, subst, subst⁻¹, _∙_}
 use mathlib.Core.Logic.{inl, inr}
 use mathlib.Core.List.{List, [], _∷_, _++_, append-assoc}
-use mathlib.Core.Bool.{Bool, true, false, cond}
-use Prim.Native.Nat.{ℕ, zero, suc, _+_, _*_, _≤_, _<_, zero-le}
-use native.Mathlib.Nat.{le-refl, zero-mul}
+use mathlib.Core.Bool.{Bool, cond}
+use Prim.Native.Nat.{ℕ, zero, suc, _+_, _*_, _≤_, zero-le}
+use native.Mathlib.Nat.{le-refl}
 use native.Mathlib.Omega.{arith}
-use lib.Dec.{T, ltb, ltb→lt, lit≤}
+use lib.Dec.{lit≤}
 use lib.ListN.{length, getD, replicate, length-append, List·getD-eq-default}
-use lib.Ieee.{Float, nan, inf, fin, lt, isNan, up, down, ofBits}
+use lib.Ieee.{Float, lt, isNan, ofBits}
 use lib.Ieee.Positive.{num, den, den-pos}
 use Rattle.casts.specs.Arithmetic.{_⊘_, nought, half, one}
 use Rattle.casts.specs.Step.{stepOf, step-le, step-one}
 use Rattle.stage.specs.Stage.{outs, All, Beside}
 use Rattle.stage.proofs.Laws.{outs-length, all-append, beside-none, all-beside}
 use Rattle.rate.specs.declared.CeilingRate.{CeilingRate}
-use Rattle.rate.specs.Ceiling.{unit, plain, ceilingRate, Usable, SheetValueUsable}
+use Rattle.rate.specs.Ceiling.{unit, ceilingRate, Usable, SheetValueUsable}
 use Rattle.rate.proofs.Ceiling.{usable-44100, usable-48000, sheet-value-usable-44100, sheet-value-usable-48000}
 use Rattle.stream.specs.declared.Frame.{Frame}
-use Rattle.master.specs.Ceiling.{freshMachine, silence, peakOf, sizeOf, largerOf, needFor, needOf, lastOf, total, countOf, lateOf, taken, Multiplied, multiplied, multipliedStep}
+use Rattle.master.specs.Ceiling.{freshMachine, silence, peakOf, sizeOf, largerOf, needFor, needOf, lastOf, total, countOf, lateOf, taken, multiplied, multipliedStep}
 use Rattle.master.specs.Kept.{ceilingFresh}
 use Rattle.master.specs.SheetValue.{Moderate, ModerateFrame, FrameBound, Figure, SheetValueAt, SheetValue}
 use Rattle.master.proofs.Window.{le-or-lt}
@@ -26,7 +26,7 @@ use Rattle.master.proofs.Bound.{after, after-gain, steps-bound}
 use Rattle.master.proofs.Refines.{same-multiplied}
 use Rattle.master.proofs.Delivered.{frames-are}
 use Rattle.master.proofs.Opening.{fresh-is}
-use Rattle.master.proofs.Sizes.{plain-nonnegative, le-sizes}
+use Rattle.master.proofs.Sizes.{plain-nonnegative, plain-not-below, le-sizes, under-one→le}
 use Rattle.master.proofs.Peak.{Peaked, peaked, Needed, needed}
 use Rattle.master.proofs.Side.{side-bounded}
 use Rattle.master.proofs.Unclamped.{unclamped-by}
@@ -71,20 +71,7 @@ module _ (r : CeilingRate) (usable : Usable r) (besides : SheetValueUsable r) wh
   -- ---- silence needs 1
   silence-need : needOf r silence ≡ one
   unfolding needOf peakOf sizeOf largerOf needFor lt isNan ofBits
-  silence-need = go (r .limit) (usable .limit-plain)
-    where
-      no : (a d : ℕ) → a < 0 * d → ⊥
-      no a d h = omega (arith, zero-mul d)
-
-      go : (x : Float) → T (plain x) → needFor x nought ≡ one
-      go nan p = absurd p
-      go (inf s) p = absurd p
-      go (fin true m e) p = absurd p
-      go (fin false m e) p = pick (ltb (m * up e * 1) (0 * down e)) (ltb→lt (m * up e * 1) (0 * down e))
-        where
-          pick : (b : Bool) → (T b → m * up e * 1 < 0 * down e) → cond b (fin false m e ⊘ nought) one ≡ one
-          pick true k = absurd (no (m * up e * 1) (down e) (k tt))
-          pick false k = refl
+  silence-need = ap (λ (b : Bool). cond b (r .limit ⊘ nought) one) (plain-not-below (r .limit) (usable .limit-plain))
 
   -- ---- the gain bound of any past, the late frame being silence while the past is short
   count-bound : (h : List Frame) → countOf r (after r h) ≤ suc (r .ahead) * stepOf (needOf r (getD h (r .ahead) silence))
@@ -106,10 +93,7 @@ module _ (r : CeilingRate) (usable : Usable r) (besides : SheetValueUsable r) wh
 
   high : num (r .limit) ≤ den (r .limit)
   unfolding ofBits
-  high = flat (num (r .limit)) (den (r .limit)) (le-sizes (r .limit) one (plain-nonnegative (r .limit) (usable .limit-plain)) tt (besides .limit-high))
-    where
-      flat : (a b : ℕ) → a * 1 ≤ 1 * b → a ≤ b
-      flat a b h = omega arith
+  high = under-one→le (num (r .limit)) (den (r .limit)) (le-sizes (r .limit) one (plain-nonnegative (r .limit) (usable .limit-plain)) tt (besides .limit-high))
 
   late-bounded : (h : List Frame) → ModerateFrame (getD h (r .ahead) silence) → FrameBound (r .limit) (multiplied r (countOf r (after r h)) (getD h (r .ahead) silence))
   unfolding needOf multiplied

@@ -88,9 +88,9 @@ module _ (limit : Float) (is-plain : T (plain limit)) (low : den limit ≤ num l
         size = ended (num (round binary64 false a c)) (den (round binary64 false a c)) (num S) (den S) L l (2 ^ 53) (suc (2 ^ 53)) _ _ (den-pos S) (pow-pos 53) (y .1) e (lit≤ tt);
       }
     where
-      twice : (L l t : ℕ) → 0 < t → L ≤ l → L * suc t * 1 ≤ 2 * (l * t)
-      twice L l t tp h =
-          le-trans (le-of-eq (mul-one (L * suc t))) (le-trans (mul-le-mul h (double t tp)) (le-of-eq (mul-left-comm l 2 t)))
+      twice : (a b t : ℕ) → 0 < t → a ≤ b → a * suc t * 1 ≤ 2 * (b * t)
+      twice a b t tp h =
+          le-trans (le-of-eq (mul-one (a * suc t))) (le-trans (mul-le-mul h (double t tp)) (le-of-eq (mul-left-comm b 2 t)))
         where
           double : (t : ℕ) → 0 < t → suc t ≤ 2 * t
           double t h = omega arith
