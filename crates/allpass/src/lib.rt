@@ -4,6 +4,7 @@ use rate::LineRate;
 ghost use mathlib.Core.Path.{_≡_};
 ghost use Prim.Native.Nat.{_<_};
 ghost use Rattle.delay.specs.Delay.{Reach};
+ghost use Rattle.ranges.specs.Ranges.{lastPosition};
 ghost use Rattle.allpass.specs.Allpass.{gave, storedOf, latticeFromOn, latticeOn, stretchedAt, delayOn, Lent};
 
 // What a line inside a loop takes: the Rust's flush(v) + kick, kick being 0. The sum changes no value, since flush gives no -0.
@@ -45,7 +46,7 @@ pub fn stretched(rate: LineRate, part: &[f64], reach: f64, stretch: f64, n: u64)
 // A plain delay: pushed, then read at its length.
 pub fn delayed(rate: LineRate, part: &mut [f64], x: f64, n: u64) -> f64
     requires { ⌜ Lent rate (now part) ⌝ }
-    requires { ⌜ n < 4294967296 ⌝ }
+    requires { ⌜ n < lastPosition ⌝ }
     ensures { λ r. ⌜ gave (now (part .exit)) r ≡ delayOn rate n (now (part .entry)) x ⌝ }
 {
     rate.line.push(part, n, x);

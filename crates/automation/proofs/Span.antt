@@ -9,6 +9,7 @@ use lib.Ieee.{Float}
 use borrow.Author.Tests.{le-leb, lt-leb, eq-eqb, ne-eqb}
 use Rattle.ramp.specs.declared.Ramp.{Ramp}
 use Rattle.ramp.specs.Ramp.{rampEnd}
+use Rattle.ranges.specs.Ranges.{lastPosition}
 use Rattle.automation.specs.declared.Tone.{Tone}
 use Rattle.automation.specs.Automation.{blockOf, daylightOf, reached, segment, sweepAt, tuningAt}
 use Rattle.automation.specs.Pieces.{rampSpan, sweepSpan, span}
@@ -20,7 +21,7 @@ same-block n j h = omega arith
 
 module _ (r : Ramp) (n : ℕ) where
   -- an ended ramp's span and that of one on its way
-  ramp-ended : rampEnd r ≤ n → rampSpan r n ≡ 4294967296
+  ramp-ended : rampEnd r ≤ n → rampSpan r n ≡ lastPosition
   unfolding rampSpan
   ramp-ended h = rw (le-leb (rampEnd r) n h)
 
@@ -31,7 +32,7 @@ module _ (r : Ramp) (n : ℕ) where
   ramp-some : 0 < rampSpan r n
   ramp-some = elim (decLe (rampEnd r) n) [ yes h ↦ omega (arith, ramp-ended h) | no h ↦ omega (arith, ramp-going (omega arith)) ]
 
-  ramp-most : rampSpan r n ≤ 4294967296
+  ramp-most : rampSpan r n ≤ lastPosition
   ramp-most = elim (decLe (rampEnd r) n) [ yes h ↦ omega (arith, ramp-ended h) | no h ↦ omega (arith, ramp-going (omega arith)) ]
 
   daylight-same : (j : ℕ) → j < rampSpan r n → daylightOf r (n + j) ≡ daylightOf r n
@@ -45,7 +46,7 @@ module _ (r : Ramp) (n : ℕ) where
 
 module _ (ps : List ℕ) (n : ℕ) where
   -- the sweep's span after all points, before any, and between two
-  sweep-ended : length ps ≤ reached ps n → sweepSpan ps n ≡ 4294967296
+  sweep-ended : length ps ≤ reached ps n → sweepSpan ps n ≡ lastPosition
   unfolding sweepSpan
   sweep-ended h = rw (eq-eqb (reached ps n) (length ps) (omega (arith, reached-most ps n)))
 
@@ -89,7 +90,7 @@ pub span-some : (r : Ramp) (ps : List ℕ) (n : ℕ) → 0 < span r ps n
 unfolding span
 span-some r ps n = omega (arith, ramp-some r n, sweep-some ps n)
 
-pub span-most : (r : Ramp) (ps : List ℕ) (n : ℕ) → span r ps n ≤ 4294967296
+pub span-most : (r : Ramp) (ps : List ℕ) (n : ℕ) → span r ps n ≤ lastPosition
 unfolding span
 span-most r ps n = omega (arith, ramp-most r n)
 

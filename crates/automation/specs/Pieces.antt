@@ -8,6 +8,7 @@ use lib.Dec.{leb, eqb}
 use lib.Ieee.{Float}
 use Rattle.ramp.specs.declared.Ramp.{Ramp}
 use Rattle.ramp.specs.Ramp.{rampEnd}
+use Rattle.ranges.specs.Ranges.{lastPosition}
 use Rattle.automation.specs.declared.Tone.{Tone}
 use Rattle.automation.specs.declared.Piece.{Piece}
 use Rattle.automation.specs.Automation.{reached, tuningAt}
@@ -19,13 +20,13 @@ pub record Reached (ps : List ℕ) (n i : ℕ) : Type 0 where
 
 -- an ended ramp lets the daylight be to the last position; one on its way, to its end and no further than the block's
 unfoldable pub rampSpan : Ramp → ℕ → ℕ
-rampSpan r n = cond (leb (rampEnd r) n) 4294967296 (min (rampEnd r - n) (32 - n % 32))
+rampSpan r n = cond (leb (rampEnd r) n) lastPosition (min (rampEnd r - n) (32 - n % 32))
 
 -- before any point the sweep is flat up to the first, after all it stays; between two, to the next and no further than the block's end
 unfoldable pub sweepSpan : List ℕ → ℕ → ℕ
 sweepSpan ps n =
     let i = reached ps n in
-    cond (eqb i (length ps)) 4294967296 (cond (eqb i 0) (getD ps i 0 - n) (min (getD ps i 0 - n) (32 - n % 32)))
+    cond (eqb i (length ps)) lastPosition (cond (eqb i 0) (getD ps i 0 - n) (min (getD ps i 0 - n) (32 - n % 32)))
 
 unfoldable pub span : Ramp → List ℕ → ℕ → ℕ
 span r ps n = min (rampSpan r n) (sweepSpan ps n)

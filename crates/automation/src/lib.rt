@@ -183,7 +183,7 @@ fn ramp_span(r: Ramp, n: u64) -> u64
     ensures { λ v. ⌜ v ≡ rampSpan r n ⌝ }
 {
     if r.ended(n) {
-        return ranges::LAST;
+        return ranges::LAST_POSITION;
     }
     let block = COEFF_BLOCK - n % COEFF_BLOCK;
     if r.start <= n {
@@ -202,7 +202,7 @@ fn sweep_span(positions: &[u64], i: usize, n: u64) -> u64
     ensures { λ v. ⌜ v ≡ sweepSpan (now (positions .entry)) n ⌝ }
 {
     if i == positions.len() {
-        return ranges::LAST;
+        return ranges::LAST_POSITION;
     }
     let gap = positions[i] - n;
     if i == 0 {

@@ -16,7 +16,8 @@ use Rattle.casts.specs.Arithmetic.{one}
 use Rattle.stage.specs.Stage.{Step}
 use Rattle.sidechain.specs.declared.DuckRate.{DuckRate}
 use Rattle.sidechain.specs.Sidechain.{span, releases}
-use Rattle.duck.specs.Cursors.{DuckIn, duckOn, laid, isMark, flag, kicksIn, marksIn, Reached, reachedAt, reach, released, timesGain, timesUntil, gave, gainOn, Within}
+use Rattle.ranges.specs.Ranges.{mostKicks}
+use Rattle.duck.specs.Cursors.{DuckIn, duckOn, laid, isMark, flag, kicksIn, marksIn, Reached, reachedAt, reach, released, timesGain, timesUntil, gave, gainOn, Within, duckCounts}
 
 -- ---- the kicks laid and unmarked, one after the other
 
@@ -41,40 +42,40 @@ set-behind xs ys i n v e = rw (← e) (go xs)
 
 -- the first j of them
 abbrev pub laidUpTo : ℕ → List ℕ → List ℕ → List ℕ
-laidUpTo j ks u = (take j ks ++ drop j (take 1024 u)) ++ (replicate j 0 ++ drop j (drop 1024 u))
+laidUpTo j ks u = (take j ks ++ drop j (take mostKicks u)) ++ (replicate j 0 ++ drop j (drop mostKicks u))
 
-module _ (ks u : List ℕ) (few : length ks ≤ 1024) (wide : 2048 ≤ length u) where
-  front-length : (j : ℕ) → j ≤ length ks → length (take j ks ++ drop j (take 1024 u)) ≡ 1024
+module _ (ks u : List ℕ) (few : length ks ≤ mostKicks) (wide : duckCounts ≤ length u) where
+  front-length : (j : ℕ) → j ≤ length ks → length (take j ks ++ drop j (take mostKicks u)) ≡ mostKicks
   front-length j h =
       let a = length-take-le j ks h in
-      let b = length-take-le 1024 u (omega arith) in
-      let c = length-drop j (take 1024 u) in
-      length-append (take j ks) (drop j (take 1024 u)) ∙ omega arith
+      let b = length-take-le mostKicks u (omega arith) in
+      let c = length-drop j (take mostKicks u) in
+      length-append (take j ks) (drop j (take mostKicks u)) ∙ omega arith
 
-  pub laid-turn : (j : ℕ) → j < length ks → set (set (laidUpTo j ks u) j (getD ks j 0)) (1024 + j) 0 ≡ laidUpTo (j + 1) ks u
+  pub laid-turn : (j : ℕ) → j < length ks → set (set (laidUpTo j ks u) j (getD ks j 0)) (mostKicks + j) 0 ≡ laidUpTo (j + 1) ks u
   laid-turn j h =
-      let front = take j ks ++ drop j (take 1024 u) in
-      let next = take (j + 1) ks ++ drop (j + 1) (take 1024 u) in
-      let marks = replicate j 0 ++ drop j (drop 1024 u) in
+      let front = take j ks ++ drop j (take mostKicks u) in
+      let next = take (j + 1) ks ++ drop (j + 1) (take mostKicks u) in
+      let marks = replicate j 0 ++ drop j (drop mostKicks u) in
       let a = front-length j (omega arith) in
-      let b = length-take-le 1024 u (omega arith) in
-      let c = length-drop 1024 u in
-      ap (λ (l : List ℕ). set l (1024 + j) 0) (set-append-left front marks j (getD ks j 0) (omega arith) ∙ ap (λ (l : List ℕ). l ++ marks) (put-turn ks (take 1024 u) j h (omega arith)))
-      ∙ set-behind next marks j 1024 0 (front-length (j + 1) (omega arith))
-      ∙ ap (λ (l : List ℕ). next ++ l) (clear-turn (drop 1024 u) j (omega arith))
+      let b = length-take-le mostKicks u (omega arith) in
+      let c = length-drop mostKicks u in
+      ap (λ (l : List ℕ). set l (mostKicks + j) 0) (set-append-left front marks j (getD ks j 0) (omega arith) ∙ ap (λ (l : List ℕ). l ++ marks) (put-turn ks (take mostKicks u) j h (omega arith)))
+      ∙ set-behind next marks j mostKicks 0 (front-length (j + 1) (omega arith))
+      ∙ ap (λ (l : List ℕ). next ++ l) (clear-turn (drop mostKicks u) j (omega arith))
 
   pub laid-done : (j : ℕ) → j ≤ length ks → length ks ≤ j → duckOn (record { count = j; reached = 0; ducking = 0 }) (laidUpTo j ks u) ≡ laid ks u
   laid-done j h k = let e : j ≡ length ks = omega arith in rw (e, take-length ks)
 
   pub laid-length : length (laid ks u .part) ≡ length u
   laid-length =
-      let front = ks ++ drop (length ks) (take 1024 u) in
-      let a : length front ≡ 1024 = rw (take-length ks) at (front-length (length ks) (omega arith)) in
+      let front = ks ++ drop (length ks) (take mostKicks u) in
+      let a : length front ≡ mostKicks = rw (take-length ks) at (front-length (length ks) (omega arith)) in
       let b = length-replicate {A = ℕ} (length ks) 0 in
-      let c = length-drop (length ks) (drop 1024 u) in
-      let d = length-drop 1024 u in
-      let e = length-append {A = ℕ} (replicate (length ks) 0) (drop (length ks) (drop 1024 u)) in
-      length-append front (replicate (length ks) 0 ++ drop (length ks) (drop 1024 u)) ∙ omega arith
+      let c = length-drop (length ks) (drop mostKicks u) in
+      let d = length-drop mostKicks u in
+      let e = length-append {A = ℕ} (replicate (length ks) 0) (drop (length ks) (drop mostKicks u)) in
+      length-append front (replicate (length ks) 0 ++ drop (length ks) (drop mostKicks u)) ∙ omega arith
 
   pub laid-kicks : kicksIn (length ks) (laid ks u .part) ≡ ks
   laid-kicks = rw (append-assoc ks) (take-append-seam ks _)
@@ -98,7 +99,7 @@ sounds-says r mark kick n e =
 -- ---- marking
 
 module _ (count : ℕ) (u : List ℕ) (c n : ℕ) (d : Bool) where
-  pub reach-more : c < count → getD u c 0 ≤ n → reach (count - (c + 1)) (c + 1) n d (set u (1024 + c) (flag d)) ≡ reach (count - c) c n d u
+  pub reach-more : c < count → getD u c 0 ≤ n → reach (count - (c + 1)) (c + 1) n d (set u (mostKicks + c) (flag d)) ≡ reach (count - c) c n d u
   unfolding reach
   reach-more h e = let s : count - c ≡ suc (count - (c + 1)) = omega arith in rw (s, le-leb (getD u c 0) n e)
 
@@ -112,20 +113,20 @@ module _ (count : ℕ) (u : List ℕ) (c n : ℕ) (d : Bool) where
 
 -- ---- the kicks in use and their marks
 
-module _ (count : ℕ) (u : List ℕ) (few : count ≤ 1024) (wide : 2048 ≤ length u) where
+module _ (count : ℕ) (u : List ℕ) (few : count ≤ mostKicks) (wide : duckCounts ≤ length u) where
   pub kicks-length : length (kicksIn count u) ≡ count
   kicks-length = length-take-le count u (omega arith)
 
   pub marks-length : length (marksIn count u) ≡ count
-  marks-length = length-map (take count (drop 1024 u)) isMark ∙ length-take-le count (drop 1024 u) (rw length-drop (omega arith))
+  marks-length = length-map (take count (drop mostKicks u)) isMark ∙ length-take-le count (drop mostKicks u) (rw length-drop (omega arith))
 
-  pub marks-get : (j : ℕ) → j < count → getD (marksIn count u) j false ≡ isMark (getD u (1024 + j) 0)
-  marks-get j h = List·getD-map isMark (take count (drop 1024 u)) j 0 ∙ ap isMark (getD-take count (drop 1024 u) j 0 h ∙ getD-drop 1024 u j 0)
+  pub marks-get : (j : ℕ) → j < count → getD (marksIn count u) j false ≡ isMark (getD u (mostKicks + j) 0)
+  marks-get j h = List·getD-map isMark (take count (drop mostKicks u)) j 0 ∙ ap isMark (getD-take count (drop mostKicks u) j 0 h ∙ getD-drop mostKicks u j 0)
 
   kicks-cons : (c : ℕ) → c < count → drop c (kicksIn count u) ≡ getD u c 0 ∷ drop (c + 1) (kicksIn count u)
   kicks-cons c h = let k = kicks-length in rw (drop-cons (kicksIn count u) c 0 (omega arith), getD-take count u c 0 h, add-one c)
 
-  marks-cons : (c : ℕ) → c < count → drop c (marksIn count u) ≡ isMark (getD u (1024 + c) 0) ∷ drop (c + 1) (marksIn count u)
+  marks-cons : (c : ℕ) → c < count → drop c (marksIn count u) ≡ isMark (getD u (mostKicks + c) 0) ∷ drop (c + 1) (marksIn count u)
   marks-cons c h = let k = marks-length in rw (drop-cons (marksIn count u) c false (omega arith), marks-get c h, add-one c)
 
   kicks-over : (c : ℕ) → count ≤ c → drop c (kicksIn count u) ≡ []
@@ -147,7 +148,7 @@ module _ (count : ℕ) (u : List ℕ) (few : count ≤ 1024) (wide : 2048 ≤ le
 
     -- the product
     pub times-more : (g : Float) → c < count → getD u c 0 ≤ n
-        → timesUntil r n (timesGain r g (n - getD u c 0) (isMark (getD u (1024 + c) 0))) (drop (c + 1) (kicksIn count u)) (drop (c + 1) (marksIn count u))
+        → timesUntil r n (timesGain r g (n - getD u c 0) (isMark (getD u (mostKicks + c) 0))) (drop (c + 1) (kicksIn count u)) (drop (c + 1) (marksIn count u))
         ≡ timesUntil r n g (drop c (kicksIn count u)) (drop c (marksIn count u))
     unfolding timesUntil
     times-more g h e = rw (kicks-cons c h, marks-cons c h, le-leb (getD u c 0) n e)
@@ -162,11 +163,11 @@ module _ (count : ℕ) (u : List ℕ) (few : count ≤ 1024) (wide : 2048 ≤ le
 
   -- two marked kicks of the product
   pub times-two-more : (r : DuckRate) (n c : ℕ) (g : Float) → c + 1 < count → getD u c 0 ≤ n → getD u (c + 1) 0 ≤ n
-      → isMark (getD u (1024 + c) 0) ≡ true → isMark (getD u (1024 + c + 1) 0) ≡ true
+      → isMark (getD u (mostKicks + c) 0) ≡ true → isMark (getD u (mostKicks + c + 1) 0) ≡ true
       → timesUntil r n (timesGain r (timesGain r g (n - getD u c 0) true) (n - getD u (c + 1) 0) true) (drop (c + 2) (kicksIn count u)) (drop (c + 2) (marksIn count u))
       ≡ timesUntil r n g (drop c (kicksIn count u)) (drop c (marksIn count u))
   times-two-more r n c g h e f marked marked' =
-      let mark : 1024 + c + 1 ≡ 1024 + (c + 1) = omega arith in
+      let mark : mostKicks + c + 1 ≡ mostKicks + (c + 1) = omega arith in
       let next : c + 2 ≡ c + 1 + 1 = omega arith in
       let first = rw marked at (times-more r n c g (omega arith) e) in
       let second = rw (sym mark, marked') at (times-more r n (c + 1) (timesGain r g (n - getD u c 0) true) h f) in
@@ -177,29 +178,29 @@ module _ (count : ℕ) (u : List ℕ) (few : count ≤ 1024) (wide : 2048 ≤ le
 reach-sized : (f c n : ℕ) (d : Bool) (u : List ℕ) → length (reach f c n d u .part) ≡ length u
 unfolding reach
 reach-sized zero c n d u = refl
-reach-sized (suc f) c n d u = by (leb (getD u c 0) n) (reach-sized f (c + 1) n d (set u (1024 + c) (flag d)) ∙ length-set u (1024 + c) (flag d))
+reach-sized (suc f) c n d u = by (leb (getD u c 0) n) (reach-sized f (c + 1) n d (set u (mostKicks + c) (flag d)) ∙ length-set u (mostKicks + c) (flag d))
   where
-    by : (b : Bool) → length (reach f (c + 1) n d (set u (1024 + c) (flag d)) .part) ≡ length u
-        → length (cond b (reach f (c + 1) n d (set u (1024 + c) (flag d))) (reachedAt c u) .part) ≡ length u
+    by : (b : Bool) → length (reach f (c + 1) n d (set u (mostKicks + c) (flag d)) .part) ≡ length u
+        → length (cond b (reach f (c + 1) n d (set u (mostKicks + c) (flag d))) (reachedAt c u) .part) ≡ length u
     by true h = h
     by false h = refl
 
 reach-within : (f c n : ℕ) (d : Bool) (u : List ℕ) → reach f c n d u .cursor ≤ c + f
 unfolding reach
 reach-within zero c n d u = omega arith
-reach-within (suc f) c n d u = by (leb (getD u c 0) n) (reach-within f (c + 1) n d (set u (1024 + c) (flag d)))
+reach-within (suc f) c n d u = by (leb (getD u c 0) n) (reach-within f (c + 1) n d (set u (mostKicks + c) (flag d)))
   where
-    by : (b : Bool) → reach f (c + 1) n d (set u (1024 + c) (flag d)) .cursor ≤ c + 1 + f
-        → cond b (reach f (c + 1) n d (set u (1024 + c) (flag d))) (reachedAt c u) .cursor ≤ c + suc f
+    by : (b : Bool) → reach f (c + 1) n d (set u (mostKicks + c) (flag d)) .cursor ≤ c + 1 + f
+        → cond b (reach f (c + 1) n d (set u (mostKicks + c) (flag d))) (reachedAt c u) .cursor ≤ c + suc f
     by true h = omega arith
     by false h = omega arith
 
 reach-from : (f c n : ℕ) (d : Bool) (u : List ℕ) → c ≤ reach f c n d u .cursor
 unfolding reach
 reach-from zero c n d u = omega arith
-reach-from (suc f) c n d u = by (leb (getD u c 0) n) (reach-from f (c + 1) n d (set u (1024 + c) (flag d)))
+reach-from (suc f) c n d u = by (leb (getD u c 0) n) (reach-from f (c + 1) n d (set u (mostKicks + c) (flag d)))
   where
-    by : (b : Bool) → c + 1 ≤ reach f (c + 1) n d (set u (1024 + c) (flag d)) .cursor → c ≤ cond b (reach f (c + 1) n d (set u (1024 + c) (flag d))) (reachedAt c u) .cursor
+    by : (b : Bool) → c + 1 ≤ reach f (c + 1) n d (set u (mostKicks + c) (flag d)) .cursor → c ≤ cond b (reach f (c + 1) n d (set u (mostKicks + c) (flag d))) (reachedAt c u) .cursor
     by true h = omega arith
     by false h = omega arith
 
@@ -207,10 +208,10 @@ reach-from (suc f) c n d u = by (leb (getD u c 0) n) (reach-from f (c + 1) n d (
 reach-none : (f c n : ℕ) (d : Bool) (u : List ℕ) → reach f c n d u .cursor ≡ c → reach f c n d u .part ≡ u
 unfolding reach
 reach-none zero c n d u e = refl
-reach-none (suc f) c n d u e = by (leb (getD u c 0) n) e (reach-from f (c + 1) n d (set u (1024 + c) (flag d)))
+reach-none (suc f) c n d u e = by (leb (getD u c 0) n) e (reach-from f (c + 1) n d (set u (mostKicks + c) (flag d)))
   where
-    by : (b : Bool) → cond b (reach f (c + 1) n d (set u (1024 + c) (flag d))) (reachedAt c u) .cursor ≡ c → c + 1 ≤ reach f (c + 1) n d (set u (1024 + c) (flag d)) .cursor
-        → cond b (reach f (c + 1) n d (set u (1024 + c) (flag d))) (reachedAt c u) .part ≡ u
+    by : (b : Bool) → cond b (reach f (c + 1) n d (set u (mostKicks + c) (flag d))) (reachedAt c u) .cursor ≡ c → c + 1 ≤ reach f (c + 1) n d (set u (mostKicks + c) (flag d)) .cursor
+        → cond b (reach f (c + 1) n d (set u (mostKicks + c) (flag d))) (reachedAt c u) .part ≡ u
     by true e h = absurd (omega arith)
     by false e h = refl
 
@@ -223,7 +224,7 @@ released-few r n (k ∷ ks) = by (leb (k + span r) n) (released-few r n ks)
     by true h = omega arith
     by false h = omega arith
 
-pub released-within : (count : ℕ) (u : List ℕ) (r : DuckRate) (n c : ℕ) → count ≤ 1024 → 2048 ≤ length u → c ≤ count → c + released r n (drop c (kicksIn count u)) ≤ count
+pub released-within : (count : ℕ) (u : List ℕ) (r : DuckRate) (n c : ℕ) → count ≤ mostKicks → duckCounts ≤ length u → c ≤ count → c + released r n (drop c (kicksIn count u)) ≤ count
 released-within count u r n c few wide h =
     let k = kicks-length count u few wide in
     let f = released-few r n (drop c (kicksIn count u)) in
@@ -239,7 +240,7 @@ unfolding gainOn
 gain-within r d n s w =
     let f = s .duck .count - s .duck .reached in
     let sized = reach-sized f (s .duck .reached) n d (s .part) in
-    let wide : 2048 ≤ length (reach f (s .duck .reached) n d (s .part) .part) = rw sized (w .sized) in
+    let wide : duckCounts ≤ length (reach f (s .duck .reached) n d (s .part) .part) = rw sized (w .sized) in
     let c = reach-within f (s .duck .reached) n d (s .part) in
     let k = w .reached in
     record {

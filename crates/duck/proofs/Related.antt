@@ -16,8 +16,8 @@ use Rattle.stage.proofs.Laws.{Relates}
 use Rattle.sidechain.specs.declared.DuckRate.{DuckRate}
 use Rattle.sidechain.specs.Sidechain.{span, sidechainGain}
 use Rattle.duck.specs.Duck.{marksAt, ducks, timesGains, unmarked, duckStep}
-use Rattle.ranges.specs.Ranges.{risingFrom}
-use Rattle.duck.specs.Cursors.{DuckIn, laid, isMark, flag, kicksIn, marksIn, Reached, reachedAt, reach, released, timesUntil, gainOn, duckStepOn, Within, duckFormed}
+use Rattle.ranges.specs.Ranges.{risingFrom, lastPosition, mostKicks}
+use Rattle.duck.specs.Cursors.{DuckIn, laid, isMark, flag, kicksIn, marksIn, Reached, reachedAt, reach, released, timesUntil, gainOn, duckStepOn, Within, duckFormed, duckCounts}
 use Rattle.duck.proofs.Loops.{laid-length, laid-kicks, kicks-length, marks-length, marks-get, gain-within}
 
 -- ---- a list that never falls
@@ -31,7 +31,7 @@ rising-low b [] e j h = absurd (omega arith)
 rising-low b (k ∷ l) e zero h = leb-true b k (and-eq-true-iff (leb b k) _ .0 e .0)
 rising-low b (k ∷ l) e (suc j) h =
     let f = and-eq-true-iff (leb b k) _ .0 e in
-    let g = and-eq-true-iff (leb k 4294967296) _ .0 (f .1) in
+    let g = and-eq-true-iff (leb k lastPosition) _ .0 (f .1) in
     let i : b ≤ k = leb-true b k (f .0) in
     let t : k ≤ getD l j 0 = rising-low k l (g .1) j (omega arith) in
     omega arith
@@ -40,16 +40,16 @@ rising-sorted : (b : ℕ) (l : List ℕ) → risingFrom b l ≡ true → Sorted 
 unfolding risingFrom Sorted
 rising-sorted b [] e i j p h = absurd (omega arith)
 rising-sorted b (k ∷ l) e zero zero p h = omega arith
-rising-sorted b (k ∷ l) e zero (suc j) p h = rising-low k l (and-eq-true-iff (leb k 4294967296) _ .0 (and-eq-true-iff (leb b k) _ .0 e .1) .1) j (omega arith)
+rising-sorted b (k ∷ l) e zero (suc j) p h = rising-low k l (and-eq-true-iff (leb k lastPosition) _ .0 (and-eq-true-iff (leb b k) _ .0 e .1) .1) j (omega arith)
 rising-sorted b (k ∷ l) e (suc i) zero p h = absurd (omega arith)
-rising-sorted b (k ∷ l) e (suc i) (suc j) p h = rising-sorted k l (and-eq-true-iff (leb k 4294967296) _ .0 (and-eq-true-iff (leb b k) _ .0 e .1) .1) i j (omega arith) (omega arith)
+rising-sorted b (k ∷ l) e (suc i) (suc j) p h = rising-sorted k l (and-eq-true-iff (leb k lastPosition) _ .0 (and-eq-true-iff (leb b k) _ .0 e .1) .1) i j (omega arith) (omega arith)
 
 -- ---- what marking leaves
 
 record Went (f c n : ℕ) (d : Bool) (u : List ℕ) (m : Reached) : Type 0 where
   within : m .cursor ≤ c + f
-  kept : (j : ℕ) → j < c → getD (m .part) (1024 + j) 0 ≡ getD u (1024 + j) 0
-  put : (j : ℕ) → c ≤ j → j < m .cursor → isMark (getD (m .part) (1024 + j) 0) ≡ d
+  kept : (j : ℕ) → j < c → getD (m .part) (mostKicks + j) 0 ≡ getD u (mostKicks + j) 0
+  put : (j : ℕ) → c ≤ j → j < m .cursor → isMark (getD (m .part) (mostKicks + j) 0) ≡ d
   up : (j : ℕ) → c ≤ j → j < m .cursor → getD u j 0 ≤ n
   stop : m .cursor < c + f → n < getD u (m .cursor) 0
 
@@ -57,17 +57,17 @@ flagged : (d : Bool) → isMark (flag d) ≡ d
 flagged true = refl
 flagged false = refl
 
-went-on : (f c n : ℕ) (d : Bool) (u : List ℕ) (m : Reached) → c + suc f ≤ 1024 → 2048 ≤ length u → getD u c 0 ≤ n
-    → Went f (c + 1) n d (set u (1024 + c) (flag d)) m → Went (suc f) c n d u m
+went-on : (f c n : ℕ) (d : Bool) (u : List ℕ) (m : Reached) → c + suc f ≤ mostKicks → duckCounts ≤ length u → getD u c 0 ≤ n
+    → Went f (c + 1) n d (set u (mostKicks + c) (flag d)) m → Went (suc f) c n d u m
 went-on f c n d u m few wide e w =
     let b = w .within in
-    let same : (j : ℕ) → j < 1024 → getD (set u (1024 + c) (flag d)) j 0 ≡ getD u j 0 = λ j h. getD-set-other u (1024 + c) j (flag d) 0 (λ q. omega arith) in
+    let same : (j : ℕ) → j < mostKicks → getD (set u (mostKicks + c) (flag d)) j 0 ≡ getD u j 0 = λ j h. getD-set-other u (mostKicks + c) j (flag d) 0 (λ q. omega arith) in
     record {
       within = omega arith;
-      kept = λ j h. w .kept j (omega arith) ∙ getD-set-other u (1024 + c) (1024 + j) (flag d) 0 (λ q. omega arith);
+      kept = λ j h. w .kept j (omega arith) ∙ getD-set-other u (mostKicks + c) (mostKicks + j) (flag d) 0 (λ q. omega arith);
       put = λ j p h. elim (decLt c j) [
         | yes i ↦ w .put j (omega arith) h
-        | no i ↦ let q : j ≡ c = omega arith in rw q (ap isMark (w .kept c (omega arith) ∙ getD-set-same u (1024 + c) (flag d) 0 (omega arith)) ∙ flagged d)
+        | no i ↦ let q : j ≡ c = omega arith in rw q (ap isMark (w .kept c (omega arith) ∙ getD-set-same u (mostKicks + c) (flag d) 0 (omega arith)) ∙ flagged d)
       ];
       up = λ j p h. elim (decLt c j) [
         | yes i ↦ rw (same j (omega arith)) at (w .up j (omega arith) h)
@@ -76,25 +76,25 @@ went-on f c n d u m few wide e w =
       stop = λ h. rw (same (m .cursor) (omega arith)) at (w .stop (omega arith));
     }
 
-goes : (f c n : ℕ) (d : Bool) (u : List ℕ) → c + f ≤ 1024 → 2048 ≤ length u → Went f c n d u (reach f c n d u)
+goes : (f c n : ℕ) (d : Bool) (u : List ℕ) → c + f ≤ mostKicks → duckCounts ≤ length u → Went f c n d u (reach f c n d u)
 unfolding reach
 goes zero c n d u few wide = record { within = omega arith; kept = λ j h. refl; put = λ j p h. absurd (omega arith); up = λ j p h. absurd (omega arith); stop = λ h. absurd (omega arith) }
-goes (suc f) c n d u few wide = by (leb (getD u c 0) n) refl (goes f (c + 1) n d (set u (1024 + c) (flag d)) (omega arith) (rw length-set wide))
+goes (suc f) c n d u few wide = by (leb (getD u c 0) n) refl (goes f (c + 1) n d (set u (mostKicks + c) (flag d)) (omega arith) (rw length-set wide))
   where
-    by : (b : Bool) → leb (getD u c 0) n ≡ b → Went f (c + 1) n d (set u (1024 + c) (flag d)) (reach f (c + 1) n d (set u (1024 + c) (flag d)))
-        → Went (suc f) c n d u (cond b (reach f (c + 1) n d (set u (1024 + c) (flag d))) (reachedAt c u))
+    by : (b : Bool) → leb (getD u c 0) n ≡ b → Went f (c + 1) n d (set u (mostKicks + c) (flag d)) (reach f (c + 1) n d (set u (mostKicks + c) (flag d)))
+        → Went (suc f) c n d u (cond b (reach f (c + 1) n d (set u (mostKicks + c) (flag d))) (reachedAt c u))
     by true e w = went-on f c n d u _ few wide (leb-true (getD u c 0) n e) w
     by false e w =
         record { within = omega arith; kept = λ j h. refl; put = λ j p h. absurd (omega arith); up = λ j p h. absurd (omega arith); stop = λ h. leb-false (getD u c 0) n e }
 
 -- no position changes
-reach-kicks : (count f c n : ℕ) (d : Bool) (u : List ℕ) → count ≤ 1024 → kicksIn count (reach f c n d u .part) ≡ kicksIn count u
+reach-kicks : (count f c n : ℕ) (d : Bool) (u : List ℕ) → count ≤ mostKicks → kicksIn count (reach f c n d u .part) ≡ kicksIn count u
 unfolding reach
 reach-kicks count zero c n d u few = refl
-reach-kicks count (suc f) c n d u few = by (leb (getD u c 0) n) (reach-kicks count f (c + 1) n d (set u (1024 + c) (flag d)) few ∙ take-set-le count u (1024 + c) (flag d) (omega arith))
+reach-kicks count (suc f) c n d u few = by (leb (getD u c 0) n) (reach-kicks count f (c + 1) n d (set u (mostKicks + c) (flag d)) few ∙ take-set-le count u (mostKicks + c) (flag d) (omega arith))
   where
-    by : (b : Bool) → kicksIn count (reach f (c + 1) n d (set u (1024 + c) (flag d)) .part) ≡ kicksIn count u
-        → kicksIn count (cond b (reach f (c + 1) n d (set u (1024 + c) (flag d))) (reachedAt c u) .part) ≡ kicksIn count u
+    by : (b : Bool) → kicksIn count (reach f (c + 1) n d (set u (mostKicks + c) (flag d)) .part) ≡ kicksIn count u
+        → kicksIn count (cond b (reach f (c + 1) n d (set u (mostKicks + c) (flag d))) (reachedAt c u) .part) ≡ kicksIn count u
     by true h = h
     by false h = refl
 
@@ -187,7 +187,7 @@ pub record DuckHolds (r : DuckRate) (kicks : List ℕ) (n : ℕ) (marks : List B
   pub before : (j : ℕ) → j < s .duck .reached → getD kicks j 0 < n
   pub later : (j : ℕ) → s .duck .reached ≤ j → j < length kicks → n ≤ getD kicks j 0
   pub gone : (j : ℕ) → j < s .duck .ducking → getD kicks j 0 + span r ≤ n
-  pub marked : (j : ℕ) → j < s .duck .reached → isMark (getD (s .part) (1024 + j) 0) ≡ getD marks j false
+  pub marked : (j : ℕ) → j < s .duck .reached → isMark (getD (s .part) (mostKicks + j) 0) ≡ getD marks j false
 
 -- ---- one sample
 
@@ -236,7 +236,7 @@ module _ (r : DuckRate) (kicks : List ℕ) (d : Bool) (n : ℕ) (marks : List Bo
       let b = h .within .reached in
       omega (arith, went .stop (omega arith), at (m .cursor) (omega arith), sorted (m .cursor) j i k)
 
-  now-marked : (j : ℕ) → j < m .cursor → isMark (getD (m .part) (1024 + j) 0) ≡ getD now j false
+  now-marked : (j : ℕ) → j < m .cursor → isMark (getD (m .part) (mostKicks + j) 0) ≡ getD now j false
   unfolding now
   now-marked j i =
       let l = long in
@@ -314,7 +314,7 @@ duck-relates r kicks d =
     }
 
 -- before the first sample
-pub duck-fresh : (r : DuckRate) (kicks part : List ℕ) → length kicks ≤ 1024 → 2048 ≤ length part → risingFrom 0 kicks ≡ true → DuckHolds r kicks 0 (unmarked kicks) (laid kicks part)
+pub duck-fresh : (r : DuckRate) (kicks part : List ℕ) → length kicks ≤ mostKicks → duckCounts ≤ length part → risingFrom 0 kicks ≡ true → DuckHolds r kicks 0 (unmarked kicks) (laid kicks part)
 duck-fresh r kicks part few wide risen =
     record {
       within = record { sized = rw (laid-length kicks part few wide) wide; few = few; reached = omega arith; ducking = omega arith };
@@ -329,7 +329,7 @@ duck-fresh r kicks part few wide risen =
 
 -- ---- what refusal 4 accepts is within its list
 
-pub formed-within : (s : DuckIn) → 2048 ≤ length (s .part) → duckFormed s ≡ true → Within s
+pub formed-within : (s : DuckIn) → duckCounts ≤ length (s .part) → duckFormed s ≡ true → Within s
 unfolding duckFormed
 formed-within s wide e =
     let a = and-eq-true-iff _ _ .0 e in

@@ -1,6 +1,6 @@
 -- The duck as it is kept: its part of the count store has the kicks' positions from 0 on and their marks from 1,024 on.
 -- Two cursors spare the kicks that have passed and those to come.
-use Prim.Native.Nat.{ℕ, zero, suc, _+_, _-_, _≤_}
+use Prim.Native.Nat.{ℕ, zero, suc, _+_, _-_, _*_, _≤_}
 use mathlib.Core.Bool.{Bool, not, cond, _&&_}
 use mathlib.Core.List.{List, [], _∷_, _++_, map}
 use lib.Dec.{leb, eqb}
@@ -11,7 +11,11 @@ use Rattle.stage.specs.Stage.{Stage, Step}
 use Rattle.duck.specs.declared.Duck.{Duck}
 use Rattle.sidechain.specs.declared.DuckRate.{DuckRate}
 use Rattle.sidechain.specs.Sidechain.{span, sidechainGain}
-use Rattle.ranges.specs.Ranges.{risingFrom}
+use Rattle.ranges.specs.Ranges.{risingFrom, mostKicks}
+
+-- a duck's part: as many kicks as there may be, and as many marks
+abbrev pub duckCounts : ℕ
+duckCounts = 2 * mostKicks
 
 pub record DuckIn : Type 0 where
   pub duck : Duck
@@ -22,7 +26,7 @@ duckOn duck part = record { duck = duck; part = part }
 
 -- the kicks at the front of a part, and no kick marked
 abbrev pub kicksLaid : List ℕ → List ℕ → List ℕ
-kicksLaid kicks part = (kicks ++ drop (length kicks) (take 1024 part)) ++ (replicate (length kicks) 0 ++ drop (length kicks) (drop 1024 part))
+kicksLaid kicks part = (kicks ++ drop (length kicks) (take mostKicks part)) ++ (replicate (length kicks) 0 ++ drop (length kicks) (drop mostKicks part))
 
 -- `Duck::new`: the cursors at the first kick
 abbrev pub laid : List ℕ → List ℕ → DuckIn
@@ -43,7 +47,7 @@ abbrev pub kicksIn : ℕ → List ℕ → List ℕ
 kicksIn count part = take count part
 
 abbrev pub marksIn : ℕ → List ℕ → List Bool
-marksIn count part = map isMark (take count (drop 1024 part))
+marksIn count part = map isMark (take count (drop mostKicks part))
 
 -- `Duck::reach`: of the f kicks from the cursor c on those up to n are marked by d, and the cursor goes past them
 pub record Reached : Type 0 where
@@ -55,7 +59,7 @@ reachedAt c part = record { cursor = c; part = part }
 
 unfoldable pub reach : ℕ → ℕ → ℕ → Bool → List ℕ → Reached
 reach zero c n d part = reachedAt c part
-reach (suc f) c n d part = cond (leb (getD part c 0) n) (reach f (c + 1) n d (set part (1024 + c) (flag d))) (reachedAt c part)
+reach (suc f) c n d part = cond (leb (getD part c 0) n) (reach f (c + 1) n d (set part (mostKicks + c) (flag d))) (reachedAt c part)
 
 -- how many of the first kicks have released at n
 unfoldable pub released : DuckRate → ℕ → List ℕ → ℕ
@@ -89,13 +93,13 @@ duckStepOn r d n s x = let g = gainOn r d n s in record { next = g .next; out = 
 
 -- what the code asks of a duck and its part: no list is too long, and no cursor is beyond its list
 pub record Within (s : DuckIn) : Type 0 where
-  pub sized : 2048 ≤ length (s .part)
-  pub few : s .duck .count ≤ 1024
+  pub sized : duckCounts ≤ length (s .part)
+  pub few : s .duck .count ≤ mostKicks
   pub reached : s .duck .reached ≤ s .duck .count
   pub ducking : s .duck .ducking ≤ s .duck .count
 
 -- refusal 4: "a cursor beyond its list", or a kept list that is too long, falls or has a position above 2^32
 unfoldable pub duckFormed : DuckIn → Bool
 duckFormed s =
-    leb (s .duck .count) 1024
+    leb (s .duck .count) mostKicks
     && (leb (s .duck .reached) (s .duck .count) && (leb (s .duck .ducking) (s .duck .count) && risingFrom 0 (kicksIn (s .duck .count) (s .part))))

@@ -8,7 +8,8 @@ ghost use mathlib.Core.Bool.{true, _&&_};
 ghost use Rattle.casts.specs.Arithmetic.{one};
 ghost use Rattle.stage.specs.Stage.{ran, outs};
 ghost use Rattle.sidechain.specs.Sidechain.{span, releases};
-ghost use Rattle.duck.specs.Cursors.{duckOn, laid, flag, isMark, kicksIn, marksIn, reach, reachedAt, released, timesGain, timesUntil, gave, gainOn, duckStepOn, Within, duckFormed};
+ghost use Rattle.ranges.specs.Ranges.{lastPosition, mostKicks};
+ghost use Rattle.duck.specs.Cursors.{duckOn, laid, flag, isMark, kicksIn, marksIn, reach, reachedAt, released, timesGain, timesUntil, gave, gainOn, duckStepOn, Within, duckFormed, duckCounts};
 use sidechain::DuckRate;
 use sidechain::Gains;
 
@@ -29,21 +30,21 @@ struct DuckedTwo {
     gains: Gains,
 }
 
-// The most kicks; their marks stand after them.
-const KICKS: usize = 1024;
+// A duck's part of the count store: the kicks, and their marks after them.
+pub const COUNTS: usize = 2 * ranges::MOST_KICKS;
 
 // ---- the kicks
 
 impl Duck {
     // Keeps the kicks in the duck's part, with no kick marked: a product may look at a mark before its kick is reached.
     pub fn new(kicks: &[u64], counts: &mut [u64]) -> Self
-        requires { ⌜ (length (now kicks) ≤ 1024) × (2048 ≤ length (now counts)) ⌝ }
+        requires { ⌜ (length (now kicks) ≤ mostKicks) × (duckCounts ≤ length (now counts)) ⌝ }
         ensures { λ r. ⌜ duckOn r (now (counts .exit)) ≡ laid (now (kicks .entry)) (now (counts .entry)) ⌝ }
     {
         let mut i: usize = 0;
         while i < kicks.len() {
             counts[i] = kicks[i];
-            counts[KICKS + i] = 0;
+            counts[ranges::MOST_KICKS + i] = 0;
             i += 1;
         }
         Self {
@@ -56,11 +57,11 @@ impl Duck {
 
 // What refusal 4 asks of a duck.
 pub fn formed(duck: Duck, counts: &[u64]) -> bool
-    requires { ⌜ 2048 ≤ length (now counts) ⌝ }
+    requires { ⌜ duckCounts ≤ length (now counts) ⌝ }
     ensures { λ r. ⌜ r ≡ duckFormed (duckOn duck (now (counts .entry))) ⌝ }
 {
     let count = duck.count;
-    if KICKS < count {
+    if ranges::MOST_KICKS < count {
         return false;
     }
     if count < duck.reached {
@@ -122,7 +123,7 @@ fn times_two(rate: DuckRate, gain: f64, first: u64, second: u64) -> f64
 
 // One kick more in the products of two samples.
 fn times_gains(rate: DuckRate, gains: Gains, since: u64, mark: u64) -> Gains
-    requires { ⌜ since + 1 < 4294967296 ⌝ }
+    requires { ⌜ since + 1 < lastPosition ⌝ }
     ensures { λ r. ⌜ r .at ≡ timesGain rate (gains .at) since (isMark mark) ⌝ }
     ensures { λ r. ⌜ r .after ≡ timesGain rate (gains .after) (since + 1) (isMark mark) ⌝ }
 {
@@ -146,7 +147,7 @@ fn flag_of(drums: bool) -> u64
 
 // Marks the kicks up to n, from the first that the lane has not reached.
 fn mark(counts: &mut [u64], count: usize, reached: usize, n: u64, drums: bool) -> usize
-    requires { ⌜ (2048 ≤ length (now counts)) × (count ≤ 1024) × (reached ≤ count) ⌝ }
+    requires { ⌜ (duckCounts ≤ length (now counts)) × (count ≤ mostKicks) × (reached ≤ count) ⌝ }
     ensures { λ c. ⌜ reachedAt c (now (counts .exit)) ≡ reach (count - reached) reached n drums (now (counts .entry)) ⌝ }
 {
     let sounded = flag_of(drums);
@@ -155,7 +156,7 @@ fn mark(counts: &mut [u64], count: usize, reached: usize, n: u64, drums: bool) -
         if n < counts[next] {
             return next;
         }
-        counts[KICKS + next] = sounded;
+        counts[ranges::MOST_KICKS + next] = sounded;
         next += 1;
     }
     next
@@ -163,7 +164,7 @@ fn mark(counts: &mut [u64], count: usize, reached: usize, n: u64, drums: bool) -
 
 // The first kick whose duck still releases at n.
 fn advance(rate: DuckRate, counts: &[u64], count: usize, ducking: usize, n: u64) -> usize
-    requires { ⌜ (2048 ≤ length (now counts)) × (count ≤ 1024) × (ducking ≤ count) ⌝ }
+    requires { ⌜ (duckCounts ≤ length (now counts)) × (count ≤ mostKicks) × (ducking ≤ count) ⌝ }
     ensures { λ c. ⌜ c ≡ ducking + released rate n (drop ducking (kicksIn count (now (counts .entry)))) ⌝ }
 {
     let mut first = ducking;
@@ -178,7 +179,7 @@ fn advance(rate: DuckRate, counts: &[u64], count: usize, ducking: usize, n: u64)
 
 // gain, times the gains from a kick on.
 fn product(rate: DuckRate, counts: &[u64], count: usize, from: usize, n: u64, gain: f64) -> f64
-    requires { ⌜ (2048 ≤ length (now counts)) × (count ≤ 1024) × (from ≤ count) ⌝ }
+    requires { ⌜ (duckCounts ≤ length (now counts)) × (count ≤ mostKicks) × (from ≤ count) ⌝ }
     ensures { λ g. ⌜ g ≡ timesUntil rate n gain (drop from (kicksIn count (now (counts .entry)))) (drop from (marksIn count (now (counts .entry)))) ⌝ }
 {
     let mut gain = gain;
@@ -188,7 +189,7 @@ fn product(rate: DuckRate, counts: &[u64], count: usize, from: usize, n: u64, ga
         if n < kick {
             return gain;
         }
-        gain = times_gain(rate, gain, n - kick, counts[KICKS + c]);
+        gain = times_gain(rate, gain, n - kick, counts[ranges::MOST_KICKS + c]);
         c += 1;
     }
     gain
@@ -196,7 +197,7 @@ fn product(rate: DuckRate, counts: &[u64], count: usize, from: usize, n: u64, ga
 
 // The gains from a kick on, two by two while two sound.
 fn product_by_two(rate: DuckRate, counts: &[u64], count: usize, from: usize, n: u64) -> f64
-    requires { ⌜ (2048 ≤ length (now counts)) × (count ≤ 1024) × (from ≤ count) ⌝ }
+    requires { ⌜ (duckCounts ≤ length (now counts)) × (count ≤ mostKicks) × (from ≤ count) ⌝ }
     ensures { λ g. ⌜ g ≡ timesUntil rate n one (drop from (kicksIn count (now (counts .entry)))) (drop from (marksIn count (now (counts .entry)))) ⌝ }
 {
     let mut gain: f64 = 1.0;
@@ -204,10 +205,10 @@ fn product_by_two(rate: DuckRate, counts: &[u64], count: usize, from: usize, n: 
     while c + 1 < count {
         let first = counts[c];
         let second = counts[c + 1];
-        if !sounds(rate, first, counts[KICKS + c], n) {
+        if !sounds(rate, first, counts[ranges::MOST_KICKS + c], n) {
             break;
         }
-        if !sounds(rate, second, counts[KICKS + c + 1], n) {
+        if !sounds(rate, second, counts[ranges::MOST_KICKS + c + 1], n) {
             break;
         }
         gain = times_two(rate, gain, n - first, n - second);
@@ -218,7 +219,7 @@ fn product_by_two(rate: DuckRate, counts: &[u64], count: usize, from: usize, n: 
 
 // The products at n and at n + 1, side by side: a product's multiplications wait for each other, those of two do not.
 fn products(rate: DuckRate, counts: &[u64], count: usize, from: usize, n: u64) -> Gains
-    requires { ⌜ (2048 ≤ length (now counts)) × (count ≤ 1024) × (from ≤ count) × (n + 1 < 4294967296) ⌝ }
+    requires { ⌜ (duckCounts ≤ length (now counts)) × (count ≤ mostKicks) × (from ≤ count) × (n + 1 < lastPosition) ⌝ }
     ensures { λ g. ⌜ g .at ≡ timesUntil rate n one (drop from (kicksIn count (now (counts .entry)))) (drop from (marksIn count (now (counts .entry)))) ⌝ }
     ensures { λ g. ⌜ g .after ≡ timesUntil rate (n + 1) one (drop from (kicksIn count (now (counts .entry)))) (drop from (marksIn count (now (counts .entry)))) ⌝ }
 {
@@ -235,7 +236,7 @@ fn products(rate: DuckRate, counts: &[u64], count: usize, from: usize, n: u64) -
                 after: product(rate, counts, count, c, n + 1, gains.after),
             };
         }
-        gains = times_gains(rate, gains, n - kick, counts[KICKS + c]);
+        gains = times_gains(rate, gains, n - kick, counts[ranges::MOST_KICKS + c]);
         c += 1;
     }
     gains
@@ -271,7 +272,7 @@ pub fn duck_step(rate: DuckRate, duck: Duck, counts: &mut [u64], n: u64, drums: 
 // The samples n and n + 1. The second's gain is found anew if a cursor moves between them.
 fn duck_two(rate: DuckRate, duck: Duck, counts: &mut [u64], n: u64, drums: bool) -> DuckedTwo
     requires { ⌜ Within (duckOn duck (now counts)) ⌝ }
-    requires { ⌜ n + 1 < 4294967296 ⌝ }
+    requires { ⌜ n + 1 < lastPosition ⌝ }
     ensures { λ r. ⌜ r .gains .at ≡ gainOn rate drums n (duckOn duck (now (counts .entry))) .out ⌝ }
     ensures { λ r. ⌜ gave (r .duck) (now (counts .exit)) (r .gains .after) ≡ gainOn rate drums (n + 1) (gainOn rate drums n (duckOn duck (now (counts .entry))) .next) ⌝ }
 {
@@ -302,7 +303,7 @@ pub fn duck_block(
     drums: bool,
 ) -> Duck
     requires { ⌜ Within (duckOn duck (now counts)) ⌝ }
-    requires { ⌜ n + length (now block) ≤ 4294967296 ⌝ }
+    requires { ⌜ n + length (now block) ≤ lastPosition ⌝ }
     ensures { λ r. ⌜ duckOn r (now (counts .exit)) ≡ ran (duckStepOn rate drums) n (duckOn duck (now (counts .entry))) (now (block .entry)) ⌝ }
     ensures { λ r. ⌜ now (block .exit) ≡ outs (duckStepOn rate drums) n (duckOn duck (now (counts .entry))) (now (block .entry)) ⌝ }
 {

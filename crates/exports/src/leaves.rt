@@ -263,10 +263,10 @@ pub extern "C" fn goqhari_test_sidechain(since: u64) -> f64 {
 // Keeps the kicks in a duck's part; answers how many.
 #[no_mangle]
 pub extern "C" fn goqhari_test_duck_new(kicks: &[u64], counts: &mut [u64]) -> usize {
-    if 1024 < kicks.len() {
+    if ranges::MOST_KICKS < kicks.len() {
         return 0;
     }
-    if counts.len() < 2048 {
+    if counts.len() < duck::COUNTS {
         return 0;
     }
     Duck::new(kicks, counts).count
@@ -280,13 +280,13 @@ pub extern "C" fn goqhari_test_duck(
     n: u64,
     drums: bool,
 ) -> f64 {
-    if counts.len() < 2048 {
+    if counts.len() < duck::COUNTS {
         return 0.0;
     }
     let count = cursors[0];
     let reached = cursors[1];
     let ducking = cursors[2];
-    if 1024 < count {
+    if ranges::MOST_KICKS < count {
         return 0.0;
     }
     if count < reached {

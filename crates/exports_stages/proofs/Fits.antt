@@ -9,23 +9,16 @@ use lib.Dec.{T}
 use lib.Ieee.{Float}
 use Rattle.stream.specs.declared.Frame.{Frame}
 use Rattle.stage.specs.Stage.{ran}
-use Rattle.rate.specs.declared.PlateRate.{PlateRate}
 use Rattle.rate.specs.declared.TapeRate.{TapeRate}
 use Rattle.rate.specs.declared.CeilingRate.{CeilingRate}
-use Rattle.rate.specs.Plate.{plateRate}
 use Rattle.rate.specs.Tape.{tapeRate}
 use Rattle.rate.specs.Ceiling.{ceilingRate}
-use Rattle.rate.proofs.Plate.{plate-44100}
 use Rattle.rate.proofs.Tape.{warp-44100, tape-44100}
 use Rattle.rate.proofs.Ceiling.{ceiling-44100, usable-44100}
-use Rattle.plate.specs.Plate.{partOf}
 use Rattle.tape.specs.Kept.{WarpFits}
 use Rattle.master.specs.Kept.{CeilingIn, ceilingStepOn}
 use Rattle.master.specs.WellFormed.{Sized, wellFormed}
 use Rattle.master.proofs.Stays.{well-formed-after}
-
-pub places-of : (r : PlateRate) → r ≡ plateRate 44100 → partOf r ≡ 47104
-places-of r e = rw (e, plate-44100)
 
 pub warp-fits : (r : TapeRate) (ring : List Float) → r ≡ tapeRate 44100 → length ring ≡ 64 → WarpFits r ring
 warp-fits r ring e l =

@@ -6,7 +6,11 @@ ghost use mathlib.Core.Path.{_≡_};
 ghost use mathlib.Core.Bool.{true};
 ghost use lib.ListN.{length};
 ghost use lib.Dec.{T};
+ghost use Rattle.ranges.specs.Ranges.{mostKicks, lastPosition};
+ghost use Rattle.duck.specs.Cursors.{duckCounts};
 ghost use Rattle.rate.specs.Ceiling.{ceilingRate};
+ghost use Rattle.rate.specs.Rate.{RateUsable};
+ghost use Rattle.rate.specs.Stores.{plateSamples};
 ghost use Rattle.master.specs.Kept.{ceilingOn};
 ghost use Rattle.master.specs.WellFormed.{wellFormed};
 use automation::Tone;
@@ -18,6 +22,7 @@ use ramp::Ramp;
 use ramp::Shape;
 use rate::CeilingRate;
 use rate::PlateRate;
+use rate::Rate;
 use rate::TapeRate;
 use rate::places;
 use tape::Tape;
@@ -25,8 +30,6 @@ use tape::TapeSetup;
 
 // The places of each stage's parts.
 const WARP: usize = TapeRate::WARP;
-
-const LINES: usize = 47104;
 
 const LATE: usize = CeilingRate::WINDOW + 1 + 2 * CeilingRate::AHEAD;
 
@@ -69,12 +72,12 @@ fn piece_end(at: usize, len: u64, most: usize) -> usize
 
 // Whether a call of len samples at n ends by the last position.
 fn in_time(n: u64, len: usize) -> bool
-    ensures { λ r. ⌜ (r ≡ true → n + len ≤ 4294967296) ⌝ }
+    ensures { λ r. ⌜ (r ≡ true → n + len ≤ lastPosition) ⌝ }
 {
-    if ranges::LAST < n {
+    if ranges::LAST_POSITION < n {
         return false;
     }
-    if ranges::LAST - n < len as u64 {
+    if ranges::LAST_POSITION - n < len as u64 {
         return false;
     }
     true
@@ -90,15 +93,15 @@ struct Lane {
 
 // Whether the lengths of a lane's parts and its duck fit, and a block of len samples at n.
 fn lane_fits(ring: usize, counts: usize, duck: Duck, n: u64, len: usize) -> bool
-    ensures { λ r. ⌜ (r ≡ true → (ring ≡ 64) × (2048 ≤ counts) × (duck .count ≤ 1024) × (duck .reached ≤ duck .count) × (duck .ducking ≤ duck .count) × (n + len ≤ 4294967296)) ⌝ }
+    ensures { λ r. ⌜ (r ≡ true → (ring ≡ 64) × (duckCounts ≤ counts) × (duck .count ≤ mostKicks) × (duck .reached ≤ duck .count) × (duck .ducking ≤ duck .count) × (n + len ≤ lastPosition)) ⌝ }
 {
     if ring != WARP {
         return false;
     }
-    if counts < places::DUCK {
+    if counts < duck::COUNTS {
         return false;
     }
-    if 1024 < duck.count {
+    if ranges::MOST_KICKS < duck.count {
         return false;
     }
     if duck.count < duck.reached {
@@ -133,7 +136,7 @@ fn passed(
 fn tuned(own: Tone, daylight: Ramp, points: &[u64], values: &[f64], tape: Tape, n: u64) -> Tape
     requires { ⌜ length (now points) ≤ length (now values) ⌝ }
 {
-    if ranges::LAST <= n {
+    if ranges::LAST_POSITION <= n {
         return tape;
     }
     let rate = TapeRate::cd();
@@ -162,7 +165,7 @@ fn run(
     n: u64,
     drums: bool,
 ) -> Tape
-    requires { ⌜ (length (now points) ≤ length (now values)) × (n ≤ 4294967296) ⌝ }
+    requires { ⌜ (length (now points) ≤ length (now values)) × (n ≤ lastPosition) ⌝ }
 {
     let own = setup.tone;
     let mut tape = tape;
@@ -244,7 +247,7 @@ fn called(
     if values.len() < points.len() {
         return lane;
     }
-    if ranges::LAST < n {
+    if ranges::LAST_POSITION < n {
         return lane;
     }
     let daylight = lane.daylight;
@@ -328,10 +331,10 @@ pub extern "C" fn goqhari_test_tape(
     samples: &mut [f64],
     calls: &[u64],
 ) -> bool {
-    if 1024 < kicks.len() {
+    if ranges::MOST_KICKS < kicks.len() {
         return false;
     }
-    if counts.len() < places::DUCK {
+    if counts.len() < duck::COUNTS {
         return false;
     }
     silence(ring);
@@ -358,10 +361,11 @@ pub extern "C" fn goqhari_test_tilt_lent(s: &mut [f64; 2], rain: f64, x: f64) ->
 // ---- the plate
 
 // Whether the lengths of the plate's part and of a call at n fit.
-fn plate_fits(part: usize, left: usize, right: usize, n: u64) -> bool
-    ensures { λ r. ⌜ (r ≡ true → (part ≡ 47104) × (right ≡ left) × (n + left ≤ 4294967296)) ⌝ }
+fn plate_fits(rate: Rate, part: usize, left: usize, right: usize, n: u64) -> bool
+    requires { ⌜ RateUsable rate ⌝ }
+    ensures { λ r. ⌜ (r ≡ true → (part ≡ plateSamples (rate .plate)) × (right ≡ left) × (n + left ≤ lastPosition)) ⌝ }
 {
-    if part != LINES {
+    if part != places::plate_samples(rate) {
         return false;
     }
     if right != left {
@@ -372,9 +376,9 @@ fn plate_fits(part: usize, left: usize, right: usize, n: u64) -> bool
 
 // A call, if all fits.
 fn plated(plate: Plate, part: &mut [f64], left: &mut [f64], right: &mut [f64], n: u64) -> Plate {
-    if plate_fits(part.len(), left.len(), right.len(), n) {
-        let rate = PlateRate::cd();
-        return plate::block(rate, plate, part, left, right, n);
+    let rate = Rate::cd();
+    if plate_fits(rate, part.len(), left.len(), right.len(), n) {
+        return plate::block(rate.plate, plate, part, left, right, n);
     }
     plate
 }
@@ -426,7 +430,7 @@ pub extern "C" fn goqhari_test_plate(
 
 // Whether a call's inputs and outputs have one length, and it ends in time.
 fn call_fits(left: usize, right: usize, frames: usize, gains: usize, n: u64) -> bool
-    ensures { λ r. ⌜ (r ≡ true → (right ≡ left) × (gains ≡ left) × (frames ≡ 2 * left) × (n + left ≤ 4294967296)) ⌝ }
+    ensures { λ r. ⌜ (r ≡ true → (right ≡ left) × (gains ≡ left) × (frames ≡ 2 * left) × (n + left ≤ lastPosition)) ⌝ }
 {
     if right != left {
         return false;
@@ -477,7 +481,7 @@ fn all_limited(
 )
     requires { ⌜ (1323 ≤ length (now samples)) × (1104 ≤ length (now counts)) ⌝ }
     requires { ⌜ T (wellFormed (ceilingRate 44100) (ceilingOn c (now samples) (now counts))) ⌝ }
-    requires { ⌜ length (now left) ≤ 4294967296 ⌝ }
+    requires { ⌜ length (now left) ≤ lastPosition ⌝ }
     requires { ⌜ (length (now right) ≡ length (now left)) × (length (now gains) ≡ length (now left)) ⌝ }
     requires { ⌜ length (now frames) ≡ 2 * length (now left) ⌝ }
 {

@@ -16,7 +16,8 @@ use Rattle.rate.specs.declared.CeilingRate.{CeilingRate}
 use Rattle.rate.specs.Ceiling.{unit, Usable}
 use Rattle.stream.specs.declared.Frame.{Frame}
 use Rattle.master.specs.Ceiling.{freshMachine, ceilingStep}
-use Rattle.master.specs.Kept.{CeilingIn, placesOf, samplesOf, filled, ceilingFresh, ceilingStepOn}
+use Rattle.rate.specs.Stores.{ceilingSamples}
+use Rattle.master.specs.Kept.{CeilingIn, placesOf, filled, ceilingFresh, ceilingStepOn}
 use Rattle.master.specs.WellFormed.{Sized, sumAt, wellFormed}
 use Rattle.master.proofs.Bound.{gain-one}
 use Rattle.master.proofs.Ready.{Ready, of-ready}
@@ -71,17 +72,17 @@ module _ (r : CeilingRate) (usable : Usable r) (k : CeilingIn) (fresh : Fresh r 
   fresh-well-formed fs = of-ready r (ran (ceilingStepOn r) 0 k fs) (ready-ran r usable 0 k fs fresh-ready)
 
 module _ (r : CeilingRate) (samples : List Float) (counts : List ℕ) (sized : Sized r samples counts) where
-  late-is : (j : ℕ) → j < 2 * r .ahead → getD (filled samples 0 (samplesOf r) nought) (placesOf r + j) nan ≡ nought
+  late-is : (j : ℕ) → j < 2 * r .ahead → getD (filled samples 0 (ceilingSamples r) nought) (placesOf r + j) nan ≡ nought
   late-is j h =
       let z : 0 + (placesOf r + j) ≡ placesOf r + j = omega arith in
-      subst (λ (x : ℕ). getD (filled samples 0 (samplesOf r) nought) x nan ≡ nought) z (filled-in samples 0 (samplesOf r) nought nan (placesOf r + j) (omega arith) (omega (arith, sized .room)))
+      subst (λ (x : ℕ). getD (filled samples 0 (ceilingSamples r) nought) x nan ≡ nought) z (filled-in samples 0 (ceilingSamples r) nought nan (placesOf r + j) (omega arith) (omega (arith, sized .room)))
 
   pub fresh-is : Fresh r (ceilingFresh r samples counts)
   unfolding ceilingFresh
   fresh-is =
       record {
         sized = record {
-          room = rw (filled-length samples 0 (samplesOf r) nought) (sized .room);
+          room = rw (filled-length samples 0 (ceilingSamples r) nought) (sized .room);
           rooms = rw (filled-length (filled counts 0 (placesOf r) 0) (placesOf r) (r .ahead + 1) unit, filled-length counts 0 (placesOf r) 0) (sized .rooms);
         };
         at-head = omega arith;

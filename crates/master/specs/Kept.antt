@@ -14,6 +14,7 @@ use Rattle.casts.specs.Step.{stepOf}
 use Rattle.stage.specs.Stage.{Step, Stage, mapped}
 use Rattle.rate.specs.declared.CeilingRate.{CeilingRate}
 use Rattle.rate.specs.Ceiling.{unit}
+use Rattle.rate.specs.Stores.{ceilingSamples}
 use Rattle.stream.specs.declared.Frame.{Frame}
 use Rattle.master.specs.declared.Heard.{Heard}
 use Rattle.master.specs.declared.Ceiling.{Ceiling}
@@ -27,15 +28,9 @@ pub record CeilingIn : Type 0 where
 abbrev pub ceilingOn : Ceiling → List Float → List ℕ → CeilingIn
 ceilingOn c samples counts = record { ceiling = c; samples = samples; counts = counts }
 
--- how long the two parts are at least
+-- the queue's places
 abbrev pub placesOf : CeilingRate → ℕ
 placesOf r = r .window + 1
-
-abbrev pub samplesOf : CeilingRate → ℕ
-samplesOf r = placesOf r + 2 * r .ahead
-
-abbrev pub countsOf : CeilingRate → ℕ
-countsOf r = placesOf r + (r .ahead + 1)
 
 -- ---- the queue, given the need of the frame n
 
@@ -129,5 +124,5 @@ unfoldable pub ceilingFresh : CeilingRate → List Float → List ℕ → Ceilin
 ceilingFresh r samples counts =
     ceilingOn
     (record { released = one; count = (r .ahead + 1) * unit; head = 0; len = 0 })
-    (filled samples 0 (samplesOf r) nought)
+    (filled samples 0 (ceilingSamples r) nought)
     (filled (filled counts 0 (placesOf r) 0) (placesOf r) (r .ahead + 1) unit)

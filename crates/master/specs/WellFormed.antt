@@ -10,7 +10,8 @@ use Rattle.casts.specs.Arithmetic.{nought, one}
 use Rattle.ranges.specs.Ranges.{inRange}
 use Rattle.rate.specs.declared.CeilingRate.{CeilingRate}
 use Rattle.rate.specs.Ceiling.{unit}
-use Rattle.master.specs.Kept.{CeilingIn, placesOf, samplesOf, countsOf}
+use Rattle.rate.specs.Stores.{ceilingSamples, ceilingCounts}
+use Rattle.master.specs.Kept.{CeilingIn, placesOf}
 
 abbrev pub inUnit : Float → Bool
 inUnit x = inRange nought one x
@@ -43,5 +44,5 @@ wellFormed r k =
 
 -- the parts of the stores are long enough
 pub record Sized (r : CeilingRate) (samples : List Float) (counts : List ℕ) : Type 0 where
-  pub room : samplesOf r ≤ length samples
-  pub rooms : countsOf r ≤ length counts
+  pub room : ceilingSamples r ≤ length samples
+  pub rooms : ceilingCounts r ≤ length counts

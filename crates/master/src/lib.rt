@@ -11,6 +11,7 @@ ghost use Rattle.casts.specs.Least.{minF};
 ghost use Rattle.casts.specs.Step.{stepOf};
 ghost use Rattle.stage.specs.Stage.{ran, outs};
 ghost use Rattle.rate.specs.Ceiling.{Usable, unit};
+ghost use Rattle.ranges.specs.Ranges.{lastPosition};
 ghost use Rattle.master.specs.Ceiling.{sizeOf, largerOf, needOf, gainOf, multiplied, clamped, delivered};
 ghost use Rattle.master.specs.Kept.{ceilingOn, placesOf, popLen, drops, headAfter, lenAfter, needsAfter, numbersAfter, stepPlace, latePlace, lateAt, gave, ceilingStepOn, framesIn, framesOut, countsOut, filled, ceilingFresh};
 ghost use Rattle.master.specs.WellFormed.{needsIn, stepsIn, sumAt, wellFormed, Sized};
@@ -95,7 +96,7 @@ fn pops(samples: &[f64], places: usize, head: usize, len: usize, need: f64) -> u
 
 // Whether the head goes, with len needs queued: the frames from its own to this one are more than the window, or the ring is over-full.
 fn head_goes(window: usize, n: u64, number: u64, len: usize) -> bool
-    requires { ⌜ (window < 65535) × (n < 4294967296) ⌝ }
+    requires { ⌜ (window < 65535) × (n < lastPosition) ⌝ }
     ensures { λ b. ⌜ b ≡ drops window (window + 1) n number len ⌝ }
 {
     if window + 1 < len {
@@ -125,7 +126,7 @@ fn enqueue(
 ) -> Queue
     requires { ⌜ Usable rate ⌝ }
     requires { ⌜ Sized rate (now samples) (now counts) ⌝ }
-    requires { ⌜ (c .head < placesOf rate) × (c .len ≤ placesOf rate) × (n < 4294967296) ⌝ }
+    requires { ⌜ (c .head < placesOf rate) × (c .len ≤ placesOf rate) × (n < lastPosition) ⌝ }
     ensures head { λ q. ⌜ q .head ≡ headAfter rate n (ceilingOn c (now (samples .entry)) (now (counts .entry))) need ⌝ }
     ensures len { λ q. ⌜ q .len ≡ lenAfter rate n (ceilingOn c (now (samples .entry)) (now (counts .entry))) need ⌝ }
     ensures samples { λ _. ⌜ now (samples .exit) ≡ needsAfter rate (ceilingOn c (now (samples .entry)) (now (counts .entry))) need ⌝ }
@@ -248,7 +249,7 @@ pub fn step(
     requires { ⌜ Usable rate ⌝ }
     requires { ⌜ Sized rate (now samples) (now counts) ⌝ }
     requires { ⌜ T (wellFormed rate (ceilingOn c (now samples) (now counts))) ⌝ }
-    requires { ⌜ n < 4294967296 ⌝ }
+    requires { ⌜ n < lastPosition ⌝ }
     ensures { λ t. ⌜ gave (t .ceiling) (now (samples .exit)) (now (counts .exit)) (t .heard) ≡ ceilingStepOn rate n (ceilingOn c (now (samples .entry)) (now (counts .entry))) f ⌝ }
 {
     let wanted = need(rate, f);
@@ -286,7 +287,7 @@ pub fn block(
     requires { ⌜ Usable rate ⌝ }
     requires { ⌜ Sized rate (now samples) (now counts) ⌝ }
     requires { ⌜ T (wellFormed rate (ceilingOn c (now samples) (now counts))) ⌝ }
-    requires { ⌜ (n + length (now left) ≤ 4294967296) × (length (now right) ≡ length (now left)) ⌝ }
+    requires { ⌜ (n + length (now left) ≤ lastPosition) × (length (now right) ≡ length (now left)) ⌝ }
     requires { ⌜ (length (now frames) ≡ 2 * length (now left)) × (length (now gains) ≡ length (now left)) ⌝ }
     ensures { λ r. ⌜ ceilingOn r (now (samples .exit)) (now (counts .exit)) ≡ ran (ceilingStepOn rate) n (ceilingOn c (now (samples .entry)) (now (counts .entry))) (framesIn (now (left .entry)) (now (right .entry))) ⌝ }
     ensures { λ _. ⌜ now (frames .exit) ≡ framesOut (outs (ceilingStepOn rate) n (ceilingOn c (now (samples .entry)) (now (counts .entry))) (framesIn (now (left .entry)) (now (right .entry)))) ⌝ }

@@ -4,6 +4,7 @@ ghost use mathlib.Core.Path.{_≡_};
 ghost use Prim.Native.Nat.{_+_, _<_, _≤_};
 ghost use Rattle.casts.specs.Arithmetic.{_⊗_, whole};
 ghost use Rattle.eight.specs.Each.{each, each2, eightOf, Laid};
+ghost use Rattle.ranges.specs.Ranges.{lastPosition};
 ghost use Rattle.oscillators.specs.Oscillators.{phaseOf, swellOf, warpDelay, swelled, readAt};
 use eight::Eight;
 use rate::TapeRate;
@@ -61,7 +62,7 @@ fn warp_delay(rate: TapeRate, n: u64) -> f64
 // ---- of the eight samples from n on
 
 fn phases(rate: u32, hz: f32, n: u64) -> Eight
-    requires { ⌜ n < 4294967296 ⌝ }
+    requires { ⌜ n < lastPosition ⌝ }
     ensures { λ r. ⌜ r ≡ eightOf (λ k. phaseOf rate hz (n + k)) ⌝ }
 {
     Eight {
@@ -92,7 +93,7 @@ fn swells_by(depth: f32, s: Eight) -> Eight
 }
 
 fn swell_eight(rate: u32, pad: Pad, n: u64) -> Eight
-    requires { ⌜ n < 4294967296 ⌝ }
+    requires { ⌜ n < lastPosition ⌝ }
     ensures { λ r. ⌜ r ≡ eightOf (λ k. swellOf rate pad (n + k)) ⌝ }
 {
     match pad {
@@ -102,7 +103,7 @@ fn swell_eight(rate: u32, pad: Pad, n: u64) -> Eight
 }
 
 fn turns(w: f64, n: u64) -> Eight
-    requires { ⌜ n < 4294967296 ⌝ }
+    requires { ⌜ n < lastPosition ⌝ }
     ensures { λ r. ⌜ r ≡ eightOf (λ k. w ⊗ whole (n + k)) ⌝ }
 {
     Eight {
@@ -133,7 +134,7 @@ fn delays_by(rate: TapeRate, wow: Eight, flutter: Eight) -> Eight
 }
 
 fn delay_eight(rate: TapeRate, n: u64) -> Eight
-    requires { ⌜ n < 4294967296 ⌝ }
+    requires { ⌜ n < lastPosition ⌝ }
     ensures { λ r. ⌜ r ≡ eightOf (λ k. warpDelay rate (n + k)) ⌝ }
 {
     let wow = eight::sin_eight(turns(rate.wow.w, n));
@@ -144,7 +145,7 @@ fn delay_eight(rate: TapeRate, n: u64) -> Eight
 // ---- of a group, the first count of the eight samples from n on: a sample alone is cheaper by the plain functions
 
 pub fn swells(rate: u32, pad: Pad, n: u64, count: usize) -> [f64; 8]
-    requires { ⌜ (n < 4294967296) × (count ≤ 8) ⌝ }
+    requires { ⌜ (n < lastPosition) × (count ≤ 8) ⌝ }
     ensures { λ r. ⌜ Laid count (λ k. swellOf rate pad (n + k)) r ⌝ }
 {
     if count < 2 {
@@ -156,7 +157,7 @@ pub fn swells(rate: u32, pad: Pad, n: u64, count: usize) -> [f64; 8]
 }
 
 pub fn delays(rate: TapeRate, n: u64, count: usize) -> [f64; 8]
-    requires { ⌜ (n < 4294967296) × (count ≤ 8) ⌝ }
+    requires { ⌜ (n < lastPosition) × (count ≤ 8) ⌝ }
     ensures { λ r. ⌜ Laid count (λ k. warpDelay rate (n + k)) r ⌝ }
 {
     if count < 2 {

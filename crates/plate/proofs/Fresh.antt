@@ -17,7 +17,8 @@ use Rattle.rate.specs.declared.HalfRate.{HalfRate}
 use Rattle.rate.specs.declared.PlateRate.{PlateRate}
 use Rattle.rate.specs.Plate.{endOf, LineUsable, InputUsable, HalfUsable, PlateUsable}
 use Rattle.plate.specs.Machine.{freshHalf, freshPlate, InputMachine, inputAtRest, HalfMachine, halfAtRest, PlateMachine, atRest}
-use Rattle.plate.specs.Plate.{HalfIn, halfIn, PlateIn, plateOn, freshOn, quietOf, atRestOn, partOf}
+use Rattle.rate.specs.Stores.{plateSamples}
+use Rattle.plate.specs.Plate.{HalfIn, halfIn, PlateIn, plateOn, freshOn, quietOf, atRestOn}
 use Rattle.plate.proofs.InputHeld.{InputHolds, room0, room1, room2, room3, room4}
 use Rattle.plate.proofs.HalfHeld as half
 use Rattle.plate.proofs.HalfHeld.{HalfHolds}
@@ -44,7 +45,7 @@ first-zeros a b = rw (← replicate-append-replicate a b nought) (take-at (repli
 last-zeros : (a b : ℕ) → drop a (replicate (a + b) nought) ≡ replicate b nought
 last-zeros a b = rw (← replicate-append-replicate a b nought) (drop-at (replicate a nought) (replicate b nought) a (length-replicate a nought))
 
-pub plate-fresh : (r : PlateRate) → PlateUsable r → (n : ℕ) → PlateHolds r n (freshPlate r) (plateOn (freshOn r) (replicate (partOf r) nought))
+pub plate-fresh : (r : PlateRate) → PlateUsable r → (n : ℕ) → PlateHolds r n (freshPlate r) (plateOn (freshOn r) (replicate (plateSamples r) nought))
 unfolding freshPlate freshOn
 plate-fresh r u n =
     let k : ℕ = r .input .places in
@@ -69,7 +70,7 @@ plate-fresh r u n =
           });
       left = refl;
       right = refl;
-      long = length-replicate (partOf r) nought;
+      long = length-replicate (plateSamples r) nought;
     }
 
 -- ---- at rest

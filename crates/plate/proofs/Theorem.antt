@@ -15,7 +15,8 @@ use Rattle.rate.specs.declared.Taps.{Taps}
 use Rattle.rate.specs.declared.PlateRate.{PlateRate}
 use Rattle.rate.specs.Plate.{HalfUsable, TapsUsable, PlateUsable}
 use Rattle.plate.specs.Machine.{InputMachine, HalfMachine, tapsOf, TankMachine, fedOf, stretchOf, tankStep, returnedOf, PlateMachine, inputStep, plateStep}
-use Rattle.plate.specs.Plate.{HalfIn, halfIn, halfOn, tapsOn, TankIn, tankIn, fedOn, halvesOn, returnedOn, tankOn, inputOn, PlateIn, plateStepOn, partOf}
+use Rattle.rate.specs.Stores.{plateSamples}
+use Rattle.plate.specs.Plate.{HalfIn, halfIn, halfOn, tapsOn, TankIn, tankIn, fedOn, halvesOn, returnedOn, tankOn, inputOn, PlateIn, plateStepOn}
 use Rattle.plate.proofs.InputHeld.{InputHolds, input-keeps, input-same}
 use Rattle.plate.proofs.HalfHeld.{HalfHolds, half-keeps, leaving-same}
 
@@ -92,7 +93,7 @@ pub record PlateHolds (r : PlateRate) (n : ℕ) (m : PlateMachine) (s : PlateIn)
   pub tank : TankHolds r n (m .tank) (tankIn (s .plate .tank) (drop (r .input .places) (s .part)))
   pub left : m .leftHighpass ≡ s .plate .left
   pub right : m .rightHighpass ≡ s .plate .right
-  pub long : length (s .part) ≡ partOf r
+  pub long : length (s .part) ≡ plateSamples r
 
 module _ (r : PlateRate) (u : PlateUsable r) (n : ℕ) (m : PlateMachine) (s : PlateIn) (x : Float) (h : PlateHolds r n m s) where
   abbrev i₁ : Step InputMachine Float

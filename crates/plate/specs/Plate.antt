@@ -125,7 +125,3 @@ quietOf p = onePoleAtRest (p .tank .left) && onePoleAtRest (p .tank .right) && s
 
 unfoldable pub atRestOn : PlateIn → Bool
 atRestOn s = allZero (s .part) && quietOf (s .plate)
-
--- how many places the part has
-abbrev pub partOf : PlateRate → ℕ
-partOf r = r .input .places + (r .left .places + r .right .places)

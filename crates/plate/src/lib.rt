@@ -19,8 +19,10 @@ ghost use Rattle.eight.specs.Each.{each, eightOf, listed, Laid};
 ghost use Rattle.stage.specs.Stage.{ran, outs};
 ghost use Rattle.allpass.specs.Allpass.{gave, stretchedAt};
 ghost use Rattle.rate.specs.Plate.{InputUsable, HalfUsable, TapsUsable, PlateUsable};
+ghost use Rattle.ranges.specs.Ranges.{lastPosition};
 ghost use Rattle.plate.specs.Machine.{turnOf, stretchOf};
-ghost use Rattle.plate.specs.Plate.{inputOn, halfIn, halfFrom, leavingOn, tapsOn, tankIn, fedOn, halvesOn, returnedOn, tankOn, plateOn, plateStepOn, freshOn, quietOf, atRestOn, partOf};
+ghost use Rattle.rate.specs.Stores.{plateSamples};
+ghost use Rattle.plate.specs.Plate.{inputOn, halfIn, halfFrom, leavingOn, tapsOn, tankIn, fedOn, halvesOn, returnedOn, tankOn, plateOn, plateStepOn, freshOn, quietOf, atRestOn};
 
 const INPUT_DIFFUSION_1: f64 = 0.75;
 
@@ -59,7 +61,7 @@ pub struct PlateGave {
 // The predelay and the four input lattices.
 fn input(rate: InputRate, part: &mut [f64], x: f64, n: u64) -> f64
     requires { ⌜ InputUsable rate ⌝ }
-    requires { ⌜ (length (now part) ≡ rate .places) × (n < 4294967296) ⌝ }
+    requires { ⌜ (length (now part) ≡ rate .places) × (n < lastPosition) ⌝ }
     ensures { λ r. ⌜ gave (now (part .exit)) r ≡ inputOn rate n (now (part .entry)) x ⌝ }
 {
     let p = allpass::delayed(rate.predelay, part, x, n);
@@ -82,7 +84,7 @@ fn half(
     n: u64,
 ) -> OnePole
     requires { ⌜ HalfUsable rate ⌝ }
-    requires { ⌜ (length (now part) ≡ rate .places) × (n < 4294967296) ⌝ }
+    requires { ⌜ (length (now part) ≡ rate .places) × (n < lastPosition) ⌝ }
     ensures { λ r. ⌜ halfIn r (now (part .exit)) ≡ halfFrom rate decay diffusion n (halfIn damping (now (part .entry))) fed first ⌝ }
 {
     let a = allpass::lattice_from(rate.diffuser1, part, DECAY_DIFFUSION_1, first, fed, n);
@@ -159,7 +161,7 @@ struct Stretches {
 
 // The LFO's angles at the eight frames from n on.
 fn angles(sr: u32, n: u64) -> Eight
-    requires { ⌜ n ≤ 4294967296 ⌝ }
+    requires { ⌜ n ≤ lastPosition ⌝ }
     ensures { λ r. ⌜ r ≡ eightOf (λ j. turnOf sr (n + j)) ⌝ }
 {
     Eight {
@@ -191,7 +193,7 @@ fn scaled(k: f64, x: Eight) -> [f64; 8]
 
 // The stretches of the count frames from n on, by eight angles at once. A frame alone is cheaper by the plain functions.
 fn lfo(rate: PlateRate, n: u64, count: usize) -> Stretches
-    requires { ⌜ (n ≤ 4294967296) × (count ≤ 8) ⌝ }
+    requires { ⌜ (n ≤ lastPosition) × (count ≤ 8) ⌝ }
     ensures left { λ r. ⌜ Laid count (λ j. stretchOf rate (n + j) .left) (r .left) ⌝ }
     ensures right { λ r. ⌜ Laid count (λ j. stretchOf rate (n + j) .right) (r .right) ⌝ }
 {
@@ -226,7 +228,7 @@ fn fed(rate: PlateRate, part: &[f64], x: f64, n: u64) -> Frame
 // Both halves, each on its own places.
 fn halves(rate: PlateRate, tank: Tank, part: &mut [f64], fed: Frame, stretch: Frame, n: u64) -> Tank
     requires { ⌜ PlateUsable rate ⌝ }
-    requires { ⌜ (length (now part) ≡ rate .left .places + rate .right .places) × (n < 4294967296) ⌝ }
+    requires { ⌜ (length (now part) ≡ rate .left .places + rate .right .places) × (n < lastPosition) ⌝ }
     ensures { λ r. ⌜ tankIn r (now (part .exit)) ≡ halvesOn rate n (tankIn tank (now (part .entry))) fed stretch ⌝ }
 {
     let k = rate.left.places;
@@ -294,7 +296,7 @@ fn tank_step(
 ) -> TankGave
     requires { ⌜ PlateUsable rate ⌝ }
     requires { ⌜ stretch ≡ stretchOf rate n ⌝ }
-    requires { ⌜ (length (now part) ≡ rate .left .places + rate .right .places) × (n < 4294967296) ⌝ }
+    requires { ⌜ (length (now part) ≡ rate .left .places + rate .right .places) × (n < lastPosition) ⌝ }
     ensures { λ r. ⌜ gave (tankIn (r .tank) (now (part .exit))) (r .frame) ≡ tankOn rate n (tankIn tank (now (part .entry))) x ⌝ }
 {
     let f = fed(rate, part, x, n);
@@ -314,7 +316,7 @@ fn step(
 ) -> PlateGave
     requires { ⌜ PlateUsable rate ⌝ }
     requires { ⌜ stretch ≡ stretchOf rate n ⌝ }
-    requires { ⌜ (length (now part) ≡ partOf rate) × (n < 4294967296) ⌝ }
+    requires { ⌜ (length (now part) ≡ plateSamples rate) × (n < lastPosition) ⌝ }
     ensures { λ r. ⌜ gave (plateOn (r .plate) (now (part .exit))) (r .frame) ≡ plateStepOn rate n (plateOn plate (now (part .entry))) x ⌝ }
 {
     let k = rate.input.places;
@@ -344,7 +346,7 @@ fn group(
 ) -> Plate
     requires { ⌜ PlateUsable rate ⌝ }
     requires { ⌜ length (now left) ≤ 8 ⌝ }
-    requires { ⌜ (length (now part) ≡ partOf rate) × (length (now right) ≡ length (now left)) × (n + length (now left) ≤ 4294967296) ⌝ }
+    requires { ⌜ (length (now part) ≡ plateSamples rate) × (length (now right) ≡ length (now left)) × (n + length (now left) ≤ lastPosition) ⌝ }
     ensures { λ r. ⌜ plateOn r (now (part .exit)) ≡ ran (plateStepOn rate) n (plateOn plate (now (part .entry))) (now (left .entry)) ⌝ }
     ensures { λ r. ⌜ now (left .exit) ≡ map (λ (f : Frame). f .left) (outs (plateStepOn rate) n (plateOn plate (now (part .entry))) (now (left .entry))) ⌝ }
     ensures { λ r. ⌜ now (right .exit) ≡ map (λ (f : Frame). f .right) (outs (plateStepOn rate) n (plateOn plate (now (part .entry))) (now (left .entry))) ⌝ }
@@ -378,7 +380,7 @@ pub fn block(
     n: u64,
 ) -> Plate
     requires { ⌜ PlateUsable rate ⌝ }
-    requires { ⌜ (length (now part) ≡ partOf rate) × (length (now right) ≡ length (now left)) × (n + length (now left) ≤ 4294967296) ⌝ }
+    requires { ⌜ (length (now part) ≡ plateSamples rate) × (length (now right) ≡ length (now left)) × (n + length (now left) ≤ lastPosition) ⌝ }
     ensures { λ r. ⌜ plateOn r (now (part .exit)) ≡ ran (plateStepOn rate) n (plateOn plate (now (part .entry))) (now (left .entry)) ⌝ }
     ensures { λ r. ⌜ now (left .exit) ≡ map (λ (f : Frame). f .left) (outs (plateStepOn rate) n (plateOn plate (now (part .entry))) (now (left .entry))) ⌝ }
     ensures { λ r. ⌜ now (right .exit) ≡ map (λ (f : Frame). f .right) (outs (plateStepOn rate) n (plateOn plate (now (part .entry))) (now (left .entry))) ⌝ }

@@ -2,7 +2,7 @@
 use mathlib.Core.Path.{_≡_}
 use mathlib.Core.Bool.{Bool, true, false, cond, _&&_, and-true, and-false}
 use mathlib.Core.List.{List}
-use Prim.Native.Nat.{ℕ, _+_, _%_, _≤_, _<_}
+use Prim.Native.Nat.{ℕ, _+_, _%_, _≤_, _<_, _*_}
 use native.Mathlib.Numerals.{add-one}
 use native.Mathlib.Nat.{add-zero}
 use native.Mathlib.Omega.{arith}
@@ -13,7 +13,7 @@ use lib.ListN.{length, drop, getD, drop-of-length-le}
 use lib.Seq.{drop-cons}
 use lib.Ieee.{Float, nan}
 use borrow.Author.Tests.{le-leb, lt-leb, lt-ltb, le-ltb, ne-eqb}
-use Rattle.ranges.specs.Ranges.{inRange, allInRange, risingFrom}
+use Rattle.ranges.specs.Ranges.{lastPosition, inRange, allInRange, risingFrom}
 
 -- one test more
 pub count-more : (n : ℕ) (t rest : Bool) → (eqb (n + cond t 0 1) 0 && rest) ≡ (eqb n 0 && (t && rest))
@@ -41,7 +41,7 @@ between b k m rest = elim (decLt k b) [
 
 -- `REACH`: above any position, a power of two
 abbrev pub reach : ℕ
-reach = 8589934592
+reach = 2 * lastPosition
 
 -- two numbers joined digit by digit lie below a power of two just where both do
 joined : (a b : ℕ) → ltb (bitOr a b) reach ≡ (ltb a reach && ltb b reach)
@@ -65,11 +65,11 @@ part-below n k d h =
 
 -- d is k - b, wrapped
 apart : (b k n d : ℕ) (rest : Bool) → (d + b) % 18446744073709551616 ≡ k → d < 18446744073709551616 → (n < reach → b < reach)
-    → (ltb (bitOr (bitOr n k) d) reach && (leb k 4294967296 && rest)) ≡ (ltb n reach && (leb b k && (leb k 4294967296 && rest)))
+    → (ltb (bitOr (bitOr n k) d) reach && (leb k lastPosition && rest)) ≡ (ltb n reach && (leb b k && (leb k lastPosition && rest)))
 apart b k n d rest e fits h =
     rw (joined (bitOr n k) d, joined n k)
-    (elim (decLt 4294967296 k) [
-      | yes f ↦ rw (lt-leb k 4294967296 f, and-false (leb b k), and-false (ltb n reach)) (and-false ((ltb n reach && ltb k reach) && ltb d reach))
+    (elim (decLt lastPosition k) [
+      | yes f ↦ rw (lt-leb k lastPosition f, and-false (leb b k), and-false (ltb n reach)) (and-false ((ltb n reach && ltb k reach) && ltb d reach))
       | no f ↦ elim (decLt n reach) [
         | no g ↦ rw (le-ltb n reach (omega arith))
         | yes g ↦
@@ -83,11 +83,11 @@ apart b k n d rest e fits h =
 
 module _ (l : List ℕ) (b i n : ℕ) where
   pub rising-more : (d : ℕ) → i < length l → (d + b) % 18446744073709551616 ≡ getD l i 0 → d < 18446744073709551616 → (n < reach → b < reach)
-      → (ltb (bitOr (bitOr n (getD l i 0)) d) reach && (leb (getD l i 0) 4294967296 && risingFrom (getD l i 0) (drop (i + 1) l)))
-      ≡ (ltb n reach && (leb b 4294967296 && risingFrom b (drop i l)))
+      → (ltb (bitOr (bitOr n (getD l i 0)) d) reach && (leb (getD l i 0) lastPosition && risingFrom (getD l i 0) (drop (i + 1) l)))
+      ≡ (ltb n reach && (leb b lastPosition && risingFrom b (drop i l)))
   unfolding risingFrom
-  rising-more d h e fits low = rw (apart b (getD l i 0) n d _ e fits low, drop-cons l i 0 h, add-one i, between b (getD l i 0) 4294967296)
+  rising-more d h e fits low = rw (apart b (getD l i 0) n d _ e fits low, drop-cons l i 0 h, add-one i, between b (getD l i 0) lastPosition)
 
-  pub rising-done : length l ≤ i → (ltb n reach && leb b 4294967296) ≡ (ltb n reach && (leb b 4294967296 && risingFrom b (drop i l)))
+  pub rising-done : length l ≤ i → (ltb n reach && leb b lastPosition) ≡ (ltb n reach && (leb b lastPosition && risingFrom b (drop i l)))
   unfolding risingFrom
-  rising-done h = rw (drop-of-length-le l h, and-true (leb b 4294967296))
+  rising-done h = rw (drop-of-length-le l h, and-true (leb b lastPosition))

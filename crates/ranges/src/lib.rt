@@ -5,8 +5,12 @@ ghost use mathlib.Core.Bool.{cond};
 ghost use Prim.Native.Nat.{_≤_};
 ghost use Rattle.ranges.specs.Ranges.{inRange, allInRange, risingFrom};
 
-// The last position.
-pub const LAST: u64 = 4294967296;
+// The most sweep points and kicks, and the last position.
+pub const MOST_POINTS: usize = 256;
+
+pub const MOST_KICKS: usize = 1024;
+
+pub const LAST_POSITION: u64 = 4294967296;
 
 // 1 where a test fails.
 fn failing(passes: bool) -> u64
@@ -34,7 +38,7 @@ pub fn all_in_range(lo: f64, hi: f64, list: &[f64]) -> bool
 }
 
 // Above any position, a power of two.
-const REACH: u64 = 8589934592;
+const REACH: u64 = 2 * LAST_POSITION;
 
 // Whether a list of positions never falls and has none above 2^32. Where it falls, a position less the one before it is REACH or more, wrapped. All
 // positions and differences go into one word: SSE2 cannot compare two u64 at once.
@@ -53,5 +57,5 @@ pub fn rising(list: &[u64]) -> bool
     if REACH <= joined {
         return false;
     }
-    least <= LAST
+    least <= LAST_POSITION
 }

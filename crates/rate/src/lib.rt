@@ -1,6 +1,6 @@
 // The rate's own type: what depends on the rate, for each stage, made by a constructor out of constants.
-// places.rt has where the stages' parts begin in the stores.
-// Uses biquad, delay and sidechain for their types; the definitions in specs/ use casts, elementary, stream and onepole too.
+// places.rt has how long each part of the stores is.
+// Uses ranges, biquad, delay, sidechain and duck for their types and numbers; the definitions in specs/ use casts, elementary, stream and onepole too.
 ghost use mathlib.Core.Path.{_≡_};
 ghost use Rattle.casts.specs.Arithmetic.{whole};
 ghost use Rattle.biquad.specs.Cookbook.{lowpassAt, bandpassAt, butterQ};

@@ -1,5 +1,5 @@
--- The lane as it is kept gives what document 01's lane gives, at every sample and any usable rate. Assumes nothing.
---     TapeHolds     the machine's lane and the kept one go together
+-- The tape as it is kept gives what document 01's lane gives, at every sample and any usable rate. Assumes nothing.
+--     TapeHolds     the machine's tape and the kept one go together
 use mathlib.Core.Path.{_≡_, refl, sym, ap, subst, _∙_}
 use mathlib.Core.Bool.{Bool, true, false, true≢false}
 use mathlib.Core.List.{List}
@@ -26,9 +26,9 @@ use Rattle.ramp.specs.declared.Ramp.{Ramp}
 use Rattle.rate.specs.declared.TapeRate.{TapeRate}
 use Rattle.rate.specs.Tape.{TapeUsable}
 use Rattle.sidechain.specs.declared.DuckRate.{DuckRate}
-use Rattle.ranges.specs.Ranges.{risingFrom}
+use Rattle.ranges.specs.Ranges.{mostKicks, risingFrom}
 use Rattle.duck.specs.Duck.{unmarked}
-use Rattle.duck.specs.Cursors.{DuckIn, duckOn, kicksIn, laid, Within, duckStepOn, duckFormed}
+use Rattle.duck.specs.Cursors.{duckCounts, DuckIn, duckOn, kicksIn, laid, Within, duckStepOn, duckFormed}
 use Rattle.duck.proofs.Loops.{gain-sized}
 use Rattle.duck.proofs.Related.{DuckHolds, duck-relates, duck-fresh}
 use Rattle.automation.specs.declared.Tuning.{Tuning}
@@ -74,7 +74,7 @@ ducked-relates r false kicks d =
 
 -- ---- the tuning
 
--- the lane is tuned as the sample at k is to be
+-- the tape is tuned as the sample at k is to be
 pub record TunedFor (r : TapeRate) (s : TapeSetup) (daylight : Ramp) (l : Lists) (k : ℕ) (t : Tape) : Type 0 where
   pub tone : lowpassRetuned (t .tone) (tuningAt (s .tone) daylight (l .positions) (l .values) k .corner) (r .hz) ≡ t .tone
   pub drive : t .drive ≡ tuningAt (s .tone) daylight (l .positions) (l .values) k .drive
@@ -110,7 +110,7 @@ module _ (r : TapeRate) (s : TapeSetup) (daylight : Ramp) (l : Lists) (n : ℕ) 
       | no i ↦ rw (le-ltb n (t .until) (omega arith)) (record { lasts = afresh-lasts; tone = unfold tunedAfresh pieceAt in refl })
     ]
 
--- ---- the lane
+-- ---- the tape
 
 pub record TapeHolds (r : TapeRate) (s : TapeSetup) (daylight : Ramp) (l : Lists) (n : ℕ) (m : TapeMachine) (t : TapeIn) : Type 0 where
   pub tone : m .tone ≡ t .tape .tone
@@ -131,7 +131,7 @@ module _ (r : TapeRate) (usable : TapeUsable r) (s : TapeSetup) (daylight rain :
     warp-read : (y delay : Float) → tapOf (atOf (pushOf (r .warp .ring) (m .warp) y)) (r .most) delay ≡ lineTap (r .warp) (linePush (r .warp) (t .ring) n y) (n + 1) (r .most) delay
     warp-read y delay = rw (warp-pushed y) (line-tap (r .warp) (usable .warp) (linePush (r .warp) (t .ring) n y) (n + 1) (r .most) delay (usable .within))
 
-    -- the kept lane, tuned for this sample, beside the machine's
+    -- the kept tape, tuned for this sample, beside the machine's
     abbrev tuned : Tape
     tuned = now-tuned r s daylight l n (t .tape)
 
@@ -192,7 +192,7 @@ module _ (r : TapeRate) (usable : TapeUsable r) (s : TapeSetup) (daylight rain :
 -- ---- before the first sample, over a ring of zeros
 
 module _ (r : TapeRate) (usable : TapeUsable r) (s : TapeSetup) (daylight : Ramp) (l : Lists) (part : List ℕ) where
-  pub tape-fresh : length (l .kicks) ≤ 1024 → 2048 ≤ length part → risingFrom 0 (l .kicks) ≡ true
+  pub tape-fresh : length (l .kicks) ≤ mostKicks → duckCounts ≤ length part → risingFrom 0 (l .kicks) ≡ true
       → TapeHolds r s daylight l 0 (freshTapeMachine r (l .kicks)) (tapeOn (freshTape r (length (l .kicks))) (replicate (r .warp .ring) nought) (laid (l .kicks) part .part))
   unfolding freshTapeMachine freshTape Lasting
   tape-fresh few wide risen =

@@ -1,4 +1,4 @@
--- The lane as it is kept: the warp as a ring in its part of the sample store, the duck with its cursors in its part of the count store, and a tuning as long as it lasts. Definitions only.
+-- The tape as it is kept: the warp as a ring in its part of the sample store, the duck with its cursors in its part of the count store, and a tuning as long as it lasts. Definitions only.
 use Prim.Native.Nat.{ℕ, _+_, _<_, _≤_}
 use mathlib.Core.Bool.{Bool, true, false, cond, _&&_}
 use mathlib.Core.List.{List}
@@ -58,7 +58,7 @@ unfoldable pub duckedStepOn : DuckRate → Bool → Bool → Stage DuckIn Float 
 duckedStepOn r true d = duckStepOn r d
 duckedStepOn r false d = identity
 
--- ---- the lane
+-- ---- the tape
 
 pub record TapeIn : Type 0 where
   pub tape : Tape

@@ -10,6 +10,7 @@ ghost use Rattle.stage.specs.Stage.{ran, outs};
 ghost use Rattle.onepole.specs.OnePole.{tiltStep};
 ghost use Rattle.duck.specs.Cursors.{duckOn, Within};
 ghost use Rattle.oscillators.specs.Oscillators.{swellOf, warpDelay};
+ghost use Rattle.ranges.specs.Ranges.{lastPosition};
 ghost use Rattle.tape.specs.Tape.{liftAt, equalizerStep, equalizerAtRest};
 ghost use Rattle.tape.specs.Kept.{frontStepOn, frontOn, frontGave, equalizerGave, duckedStepOn, tapeOn, tapeTuned, tunedAt, untuned, WarpFits, freshTape, tapeAtRestOn};
 use automation::Tone;
@@ -95,7 +96,7 @@ fn front_step(
     x: f64,
 ) -> Fronted
     requires { ⌜ WarpFits rate (now ring) ⌝ }
-    requires { ⌜ n < 4294967296 ⌝ }
+    requires { ⌜ n < lastPosition ⌝ }
     requires { ⌜ (swell ≡ swellOf (rate .hz) (setup .pad) n) × (delay ≡ warpDelay rate n) ⌝ }
     ensures { λ r. ⌜ frontGave (r .tone) (now (ring .exit)) (r .y) ≡ frontStepOn rate setup n (frontOn tone (now (ring .entry))) x ⌝ }
 {
@@ -149,7 +150,7 @@ fn front_group(
     n: u64,
 ) -> Lowpass
     requires { ⌜ WarpFits rate (now ring) ⌝ }
-    requires { ⌜ (n + length (now group) ≤ 4294967296) × (n < 4294967296) × (length (now group) ≤ 8) ⌝ }
+    requires { ⌜ (n + length (now group) ≤ lastPosition) × (n < lastPosition) × (length (now group) ≤ 8) ⌝ }
     ensures { λ r. ⌜ frontOn r (now (ring .exit)) ≡ ran (frontStepOn rate setup) n (frontOn tone (now (ring .entry))) (now (group .entry)) ⌝ }
     ensures { λ r. ⌜ now (group .exit) ≡ outs (frontStepOn rate setup) n (frontOn tone (now (ring .entry))) (now (group .entry)) ⌝ }
 {
@@ -187,7 +188,7 @@ fn front_block(
     n: u64,
 ) -> Lowpass
     requires { ⌜ WarpFits rate (now ring) ⌝ }
-    requires { ⌜ n + length (now block) ≤ 4294967296 ⌝ }
+    requires { ⌜ n + length (now block) ≤ lastPosition ⌝ }
     ensures { λ r. ⌜ frontOn r (now (ring .exit)) ≡ ran (frontStepOn rate setup) n (frontOn tone (now (ring .entry))) (now (block .entry)) ⌝ }
     ensures { λ r. ⌜ now (block .exit) ≡ outs (frontStepOn rate setup) n (frontOn tone (now (ring .entry))) (now (block .entry)) ⌝ }
 {
@@ -230,7 +231,7 @@ fn equalizer_block(
     block: &mut [f64],
     n: u64,
 ) -> Equalizer
-    requires { ⌜ n + length (now block) ≤ 4294967296 ⌝ }
+    requires { ⌜ n + length (now block) ≤ lastPosition ⌝ }
     ensures { λ r. ⌜ r ≡ ran (equalizerStep setup rain) n equalizer (now (block .entry)) ⌝ }
     ensures { λ r. ⌜ now (block .exit) ≡ outs (equalizerStep setup rain) n equalizer (now (block .entry)) ⌝ }
 {
@@ -256,7 +257,7 @@ fn duck_block(
     drums: bool,
 ) -> Duck
     requires { ⌜ Within (duckOn duck (now counts)) ⌝ }
-    requires { ⌜ n + length (now block) ≤ 4294967296 ⌝ }
+    requires { ⌜ n + length (now block) ≤ lastPosition ⌝ }
     ensures { λ r. ⌜ duckOn r (now (counts .exit)) ≡ ran (duckedStepOn rate ducked drums) n (duckOn duck (now (counts .entry))) (now (block .entry)) ⌝ }
     ensures { λ r. ⌜ now (block .exit) ≡ outs (duckedStepOn rate ducked drums) n (duckOn duck (now (counts .entry))) (now (block .entry)) ⌝ }
 {
@@ -266,7 +267,7 @@ fn duck_block(
     duck
 }
 
-// The lane tuned for the sample at n. A tuning costs more than a sample, so it is kept as long as it lasts.
+// The tape tuned for the sample at n. A tuning costs more than a sample, so it is kept as long as it lasts.
 pub fn tuned(
     rate: TapeRate,
     tone: Tone,
@@ -276,7 +277,7 @@ pub fn tuned(
     tape: Tape,
     n: u64,
 ) -> Tape
-    requires { ⌜ (length (now positions) ≤ length (now values)) × (n < 4294967296) ⌝ }
+    requires { ⌜ (length (now positions) ≤ length (now values)) × (n < lastPosition) ⌝ }
     ensures { λ r. ⌜ r ≡ tunedAt rate tone daylight (now (positions .entry)) (now (values .entry)) n tape ⌝ }
 {
     if n < tape.until {
@@ -306,7 +307,7 @@ pub fn untuned(tape: Tape) -> Tape
     tape
 }
 
-// A block of samples that have one tuning, the lane's.
+// A block of samples that have one tuning, the tape's.
 pub fn tape_block(
     rate: TapeRate,
     setup: TapeSetup,
@@ -320,7 +321,7 @@ pub fn tape_block(
 ) -> Tape
     requires { ⌜ WarpFits rate (now ring) ⌝ }
     requires { ⌜ Within (duckOn (tape .duck) (now counts)) ⌝ }
-    requires { ⌜ n + length (now block) ≤ 4294967296 ⌝ }
+    requires { ⌜ n + length (now block) ≤ lastPosition ⌝ }
     ensures { λ r. ⌜ tapeOn r (now (ring .exit)) (now (counts .exit)) ≡ ran (tapeTuned rate setup rain drums) n (tapeOn tape (now (ring .entry)) (now (counts .entry))) (now (block .entry)) ⌝ }
     ensures { λ r. ⌜ now (block .exit) ≡ outs (tapeTuned rate setup rain drums) n (tapeOn tape (now (ring .entry)) (now (counts .entry))) (now (block .entry)) ⌝ }
 {
@@ -338,7 +339,7 @@ pub fn tape_block(
     }
 }
 
-// The lane's filters whose past is zero, not tuned yet, and a duck that has reached no kick.
+// The tape's filters whose past is zero, not tuned yet, and a duck that has reached no kick.
 pub fn fresh(rate: TapeRate, kicks: usize) -> Tape
     ensures { λ r. ⌜ r ≡ freshTape rate kicks ⌝ }
 {
@@ -396,7 +397,7 @@ fn equalizer_at_rest(equalizer: Equalizer) -> bool
     false
 }
 
-// Whether the lane's filters and its warp hold only zeros.
+// Whether the tape's filters and its warp hold only zeros.
 pub fn at_rest(tape: Tape, ring: &[f64]) -> bool
     ensures { λ r. ⌜ r ≡ tapeAtRestOn (tape .tone) (tape .equalizer) (now (ring .entry)) ⌝ }
 {

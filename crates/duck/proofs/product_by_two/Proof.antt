@@ -5,6 +5,7 @@ use Prim.Native.Nat.{_+_, _-_, _≤_}
 use lib.ListN.{drop, getD}
 use denote.Ref.{now}
 use Rattle.casts.specs.Arithmetic.{one}
+use Rattle.ranges.specs.Ranges.{mostKicks}
 use Rattle.duck.specs.Cursors.{kicksIn, marksIn, timesUntil}
 use Rattle.duck.proofs.Loops.{sounds-says, times-two-more}
 use Rattle.duck.proofs.product_by_two.Statement.{statement}
@@ -71,19 +72,19 @@ sub-times-two : tie.Need-sub-times-two Inv-loop μ-loop
 sub-times-two c =
     let l = c .before .before .before .before .before .before .before .before .before .loop in
     let u = now (c .before .before .before .before .before .before .before .before .before .before .before .args .counts) in
-    sounds-says _ (getD u (1024 + l .c) 0) _ _ (sym (c .before .before .before .before .sounds .ensures) ∙ not-false _ (c .before .before .before .if1 .left)) .1
+    sounds-says _ (getD u (mostKicks + l .c) 0) _ _ (sym (c .before .before .before .before .sounds .ensures) ∙ not-false _ (c .before .before .before .if1 .left)) .1
 
 sub-times-two-2 : tie.Need-sub-times-two-2 Inv-loop μ-loop
 sub-times-two-2 c =
     let l = c .before .before .before .before .before .before .before .before .before .loop in
     let u = now (c .before .before .before .before .before .before .before .before .before .before .before .args .counts) in
-    sounds-says _ (getD u (1024 + l .c + 1) 0) _ _ (sym (c .before .sounds2 .ensures) ∙ not-false _ (c .if2 .left)) .1
+    sounds-says _ (getD u (mostKicks + l .c + 1) 0) _ _ (sym (c .before .sounds2 .ensures) ∙ not-false _ (c .if2 .left)) .1
 
 times-two-requires : tie.Need-times-two-requires Inv-loop μ-loop
 times-two-requires c κs =
     let l = c .before .before .before .before .before .before .before .before .before .loop in
     let u = now (c .before .before .before .before .before .before .before .before .before .before .before .args .counts) in
-    (sounds-says _ (getD u (1024 + l .c) 0) _ _ (sym (c .before .before .before .before .sounds .ensures) ∙ not-false _ (c .before .before .before .if1 .left)) .2, sounds-says _ (getD u (1024 + l .c + 1) 0) _ _ (sym (c .before .sounds2 .ensures) ∙ not-false _ (c .if2 .left)) .2)
+    (sounds-says _ (getD u (mostKicks + l .c) 0) _ _ (sym (c .before .before .before .before .sounds .ensures) ∙ not-false _ (c .before .before .before .if1 .left)) .2, sounds-says _ (getD u (mostKicks + l .c + 1) 0) _ _ (sym (c .before .sounds2 .ensures) ∙ not-false _ (c .if2 .left)) .2)
 
 add-c : tie.Need-add-c Inv-loop μ-loop
 add-c c = search needs
@@ -97,8 +98,8 @@ loop-again c =
     let l = b .before .before .before .before .before .loop in
     let s = b .before .before .before .before .before .before .before in
     let u = now (s .args .counts) in
-    let first = sounds-says _ (getD u (1024 + l .c) 0) _ _ (sym (b .sounds .ensures) ∙ not-false _ (c .before .before .before .before .if1 .left)) in
-    let second = sounds-says _ (getD u (1024 + l .c + 1) 0) _ _ (sym (c .before .before .sounds2 .ensures) ∙ not-false _ (c .before .if2 .left)) in
+    let first = sounds-says _ (getD u (mostKicks + l .c) 0) _ _ (sym (b .sounds .ensures) ∙ not-false _ (c .before .before .before .before .if1 .left)) in
+    let second = sounds-says _ (getD u (mostKicks + l .c + 1) 0) _ _ (sym (c .before .before .sounds2 .ensures) ∙ not-false _ (c .before .if2 .left)) in
     let more = times-two-more _ _ (s .pre .1) (s .pre .0) _ _ (l .c) (l .gain) (b .before .before .before .before .loop-test .taken) (first .1) (second .1) (first .0) (second .0) in
     (search needs, rw (c .times-two .ensures) (more ∙ l .inv .1))
 

@@ -7,14 +7,14 @@ use native.Mathlib.Omega.{arith}
 use lib.Dec.{leb, ltb}
 use borrow.Author.Tests.{lt-ltb, le-ltb}
 use lib.ListN.{length, drop}
-use Rattle.ranges.specs.Ranges.{risingFrom}
+use Rattle.ranges.specs.Ranges.{lastPosition, risingFrom}
 use Rattle.ranges.proofs.Counting.{reach, part-below, rising-more, rising-done}
 use Rattle.ranges.proofs.rising.Statement.{statement}
 use Rattle.ranges.proofs.rising.Tie as tie
 
 abbrev Inv-loop : tie.InvT-loop
 Inv-loop list joined₀ least₀ i₀ joined least i =
-    (i ≤ length list) × (joined < reach → least < reach) × ((ltb joined reach && (leb least 4294967296 && risingFrom least (drop i list))) ≡ risingFrom 0 list)
+    (i ≤ length list) × (joined < reach → least < reach) × ((ltb joined reach && (leb least lastPosition && risingFrom least (drop i list))) ≡ risingFrom 0 list)
 
 abbrev μ-loop : tie.MeasureT-loop
 μ-loop list joined₀ least₀ i₀ joined least i = length list - i

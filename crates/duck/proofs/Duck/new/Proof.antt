@@ -4,6 +4,7 @@ use native.Mathlib.Omega.{arith}
 use mathlib.Core.List.{List}
 use Prim.Native.Nat.{ℕ, _+_, _-_, _≤_}
 use lib.ListN.{length, getD, set, length-set, take-append-drop}
+use Rattle.ranges.specs.Ranges.{mostKicks}
 use Rattle.duck.specs.Cursors.{duckOn}
 use Rattle.duck.proofs.Loops.{laidUpTo, laid-turn, laid-done}
 use Rattle.duck.proofs.Duck.new.Statement.{statement}
@@ -16,7 +17,7 @@ abbrev μ-loop : tie.MeasureT-loop
 μ-loop kicks counts₀ i₀ counts i = length kicks - i
 
 loop-holds : tie.Need-loop-holds Inv-loop μ-loop
-loop-holds c = (search needs, refl, sym (take-append-drop 1024 (c .args .counts .now)))
+loop-holds c = (search needs, refl, sym (take-append-drop mostKicks (c .args .counts .now)))
 
 mul-counts : tie.Need-mul-counts Inv-loop μ-loop
 mul-counts c = search needs
@@ -56,7 +57,7 @@ loop-again c =
     let e = l .inv .2 in (
       search needs,
       simp length-set (l .inv .1),
-      ap (λ (u : List ℕ). set (set u (l .i) (getD (a .kicks .now) (l .i) 0)) (1024 + l .i) 0) e ∙ laid-turn (a .kicks .now) (a .counts .now) (p .0) (p .1) (l .i) (c .before .loop-test .taken),
+      ap (λ (u : List ℕ). set (set u (l .i) (getD (a .kicks .now) (l .i) 0)) (mostKicks + l .i) 0) e ∙ laid-turn (a .kicks .now) (a .counts .now) (p .0) (p .1) (l .i) (c .before .loop-test .taken),
     )
 
 same-length : tie.Need-same-length Inv-loop μ-loop
