@@ -1,10 +1,10 @@
-pub mod Parts
+pub mod Refusals
 pub mod Sizes
-pub mod Chain
-pub mod Related
-pub mod Opening
+pub mod LaneRelates
+pub mod BusRelates
+pub mod Parts
+pub mod Relates
 pub mod Joined
-pub mod Bound
 pub mod Demand3
 pub mod SheetValue
 pub mod Cases

@@ -1,9 +1,10 @@
 -- The sheet value of every list of calls (specs/SheetValue.antt): a corollary of the ceiling's. Assumes nothing.
-use mathlib.Core.Path.{_≡_, ap, _∙_, subst⁻¹}
+use mathlib.Core.Path.{_≡_, sym, ap, _∙_, subst⁻¹}
 use Prim.Native.Nat.{ℕ}
 use mathlib.Core.List.{List, map}
 use lib.ListN.{take}
-use Rattle.stage.specs.Stage.{All}
+use Rattle.stage.specs.Stage.{outs, All}
+use Rattle.stage.specs.System.{through}
 use Rattle.stage.proofs.Laws.{outs-take, outs-mapped}
 use Rattle.rate.specs.declared.Rate.{Rate}
 use Rattle.rate.specs.Rate.{rateOf, RateUsable}
@@ -15,22 +16,24 @@ use Rattle.master.specs.Kept.{framesOut, countsOut}
 use Rattle.master.specs.SheetValue.{FrameBound}
 use Rattle.master.proofs.SheetValue.{sheet-value-at}
 use Rattle.strip.specs.declared.Setup.{Setup}
-use Rattle.strip.specs.Machine.{fresh, heardFrom}
-use Rattle.strip.specs.Promise.{Call, Answer, expected, joinedEvents, mixedFrom}
+use Rattle.strip.specs.Machine.{freshBus, fresh, heardFrom, sentFrom}
+use Rattle.strip.specs.Promise.{Call, Answer, machineSystem, joinedEvents, mixedFrom}
 use Rattle.strip.specs.SheetValue.{joinedMixed, joinedMultiplied, SheetValueOf, JoinedSheetValueAt, JoinedSheetValue}
 use Rattle.strip.proofs.Joined.{answered}
-use Rattle.strip.proofs.Bound.{from-fresh}
-use Rattle.strip.proofs.Demand3.{joined-of}
+use Rattle.strip.proofs.BusRelates.{bus-heard}
+use Rattle.strip.proofs.Demand3.{heard-are, mixed-are, joined-of}
 
 -- what the machine delivers is these sides, narrowed and clamped
 heard-delivered : (r : Rate) (s : Setup) (l : Lists) (cs : List Call) → heardFrom r (fresh r s l) (joinedEvents 0 cs) ≡ map (delivered (r .ceiling)) (joinedMultiplied r s l cs)
-unfolding joinedMultiplied joinedMixed ceilingStep
+unfolding joinedMultiplied joinedMixed fresh freshBus ceilingStep
 heard-delivered r s l cs =
-    from-fresh r s l (joinedEvents 0 cs)
+    heard-are r (joinedEvents 0 cs) (fresh r s l)
+    ∙ bus-heard r (sentFrom r (fresh r s l) (joinedEvents 0 cs)) 0 (freshBus r)
+    ∙ ap (outs (ceilingStep (r .ceiling)) 0 freshMachine) (sym (mixed-are r (joinedEvents 0 cs) (fresh r s l)))
     ∙ outs-mapped (multipliedStep (r .ceiling)) (delivered (r .ceiling)) 0 freshMachine (mixedFrom r (fresh r s l) (joinedEvents 0 cs))
 
 -- answers that are the machine's hold all that is claimed of them
-pub sheet-value-of : (r : Rate) → RateUsable r → SheetValueUsable (r .ceiling) → (s : Setup) (l : Lists) (cs : List Call) (answers : List Answer) → answers ≡ expected r (fresh r s l) cs
+pub sheet-value-of : (r : Rate) → RateUsable r → SheetValueUsable (r .ceiling) → (s : Setup) (l : Lists) (cs : List Call) (answers : List Answer) → answers ≡ through (machineSystem r) (fresh r s l) cs
     → SheetValueOf r s l cs answers
 unfolding joinedMultiplied
 sheet-value-of r u v s l cs answers e =

@@ -1,6 +1,7 @@
--- The refusals, the one-sample machine, the four calls, and the promise about every list of them.
+-- The refusals, the one-sample machine, the strip as it is kept, the four calls, and the promise about every list of them.
 pub mod Refusals
 pub mod Machine
+pub mod Kept
 pub mod Calls
 pub mod Promise
 pub mod SheetValue

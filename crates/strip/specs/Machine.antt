@@ -1,4 +1,5 @@
 -- The one-sample machine (document 01, 'One sample through the lane', 'Plate', 'Ceiling'): "The one-sample machine has no calls, pieces, queues or cached tuning."
+-- It is a lane and a bus: the lane gives what is heard dry and what is sent, the bus takes both.
 use Prim.Native.Nat.{ℕ, _+_}
 use mathlib.Core.Bool.{Bool, _&&_}
 use mathlib.Core.List.{List, [], _∷_, _++_}
@@ -18,66 +19,111 @@ use Rattle.master.specs.Ceiling.{CeilingMachine, ceilingStep, freshMachine}
 use Rattle.strip.specs.declared.Setup.{Setup}
 use Rattle.strip.specs.declared.Controls.{Controls}
 
--- "Its state is the position n, the two ramps, each filter's history, each line's last R samples .., the marked kicks, the past needs and steps, the released gain, and the last 220 frames"
-pub record Machine : Type 0 where
-  pub position : ℕ
+-- ".. the two ramps, each filter's history, each line's last R samples .., the marked kicks ..": the lane's, with what it was opened with
+pub record LaneMachine : Type 0 where
   pub setup : Setup
   pub lists : Lists
   pub daylight : Ramp
   pub rain : Ramp
   pub tape : TapeMachine
+
+-- ".. each filter's history, each line's last R samples .., the past needs and steps, the released gain, and the last 220 frames": the bus's
+pub record BusMachine : Type 0 where
   pub plate : PlateMachine
   pub ceiling : CeilingMachine
 
--- "Fresh, n is 0, the ramps stand at the setup's values, every filter's past is zero and no kick is marked."
-unfoldable pub fresh : Rate → Setup → Lists → Machine
-fresh r s l =
+-- "Its state is the position n, .."
+pub record Machine : Type 0 where
+  pub position : ℕ
+  pub lane : LaneMachine
+  pub bus : BusMachine
+
+-- "Fresh, .. the ramps stand at the setup's values, every filter's past is zero and no kick is marked."
+unfoldable pub freshLane : Rate → Setup → Lists → LaneMachine
+freshLane r s l =
     record {
-      position = 0;
       setup = s;
       lists = l;
       daylight = held (s .daylight) Linear;
       rain = held (s .rain) Linear;
       tape = freshTapeMachine (r .tape) (l .kicks);
-      plate = freshPlate (r .plate);
-      ceiling = freshMachine;
     }
 
--- "The result y goes to the plate as y·send." "The frame is (y + l, y + r)."
-unfoldable pub mixedStep : PlateRate → Float → Stage PlateMachine Float Frame
-mixedStep r send n p y =
-    let w = plateStep r n p (y ⊗ send) in
-    record { next = w .next; out = record { left = y ⊕ w .out .left; right = y ⊕ w .out .right } }
+unfoldable pub freshBus : Rate → BusMachine
+freshBus r = record { plate = freshPlate (r .plate); ceiling = freshMachine }
 
--- "For sample x with drums flag d": the lane, the plate, the ceiling
+-- "Fresh, n is 0, .."
+unfoldable pub fresh : Rate → Setup → Lists → Machine
+fresh r s l = record { position = 0; lane = freshLane r s l; bus = freshBus r }
+
+-- ---- one sample
+
+-- what a lane gives the bus: what is heard dry, and what goes to the plate
+pub record Sent : Type 0 where
+  pub dry : Float
+  pub sent : Float
+
+-- "The result y goes to the plate as y·send."
+abbrev pub sentAt : Float → Float → Sent
+sentAt send y = record { dry = y; sent = y ⊗ send }
+
+-- "For sample x with drums flag d": the lane
+unfoldable pub laneStep : Rate → Bool → Stage LaneMachine Float Sent
+laneStep r d n l x =
+    let y = tapeStep (r .tape) (l .setup .tape) (l .daylight) (l .rain) (l .lists) d n (l .tape) x in
+    record {
+      next = record { setup = l .setup; lists = l .lists; daylight = l .daylight; rain = l .rain; tape = y .next };
+      out = sentAt (l .setup .send) (y .out);
+    }
+
+-- "The frame is (y + l, y + r)."
+abbrev pub mixOf : Float → Frame → Frame
+mixOf y f = record { left = y ⊕ f .left; right = y ⊕ f .right }
+
+unfoldable pub mixedStep : PlateRate → Stage PlateMachine Sent Frame
+mixedStep r n p s = let w = plateStep r n p (s .sent) in record { next = w .next; out = mixOf (s .dry) (w .out) }
+
+-- the plate, and the ceiling on the mixed frame
+unfoldable pub busStep : Rate → Stage BusMachine Sent Heard
+busStep r n b s =
+    let f = mixedStep (r .plate) n (b .plate) s in
+    let h = ceilingStep (r .ceiling) n (b .ceiling) (f .out) in
+    record { next = record { plate = f .next; ceiling = h .next }; out = h .out }
+
+-- the lane, and then the bus
 unfoldable pub stepped : Rate → Machine → Float → Bool → Step Machine Heard
 stepped r m x d =
     let n = m .position in
-    let y = tapeStep (r .tape) (m .setup .tape) (m .daylight) (m .rain) (m .lists) d n (m .tape) x in
-    let f = mixedStep (r .plate) (m .setup .send) n (m .plate) (y .out) in
-    let h = ceilingStep (r .ceiling) n (m .ceiling) (f .out) in
-    record {
-      next = record { position = n + 1; setup = m .setup; lists = m .lists; daylight = m .daylight; rain = m .rain; tape = y .next; plate = f .next; ceiling = h .next };
-      out = h .out;
-    }
+    let y = laneStep r d n (m .lane) x in
+    let h = busStep r n (m .bus) (y .out) in
+    record { next = record { position = n + 1; lane = y .next; bus = h .next }; out = h .out }
+
+-- ---- latch and rest
 
 -- "Latch at n moves each ramp by `Ramp::toward`: an equal target changes nothing, otherwise it goes from the value at n to the target over the given length."
-unfoldable pub latched : Machine → Controls → Machine
-latched m c =
+unfoldable pub laneLatched : ℕ → LaneMachine → Controls → LaneMachine
+laneLatched n l c =
     record {
-      position = m .position;
-      setup = m .setup;
-      lists = m .lists;
-      daylight = toward (m .daylight) (m .position) (c .daylight) (c .grading);
-      rain = toward (m .rain) (m .position) (c .rain) (c .darkening);
-      tape = m .tape;
-      plate = m .plate;
-      ceiling = m .ceiling;
+      setup = l .setup;
+      lists = l .lists;
+      daylight = toward (l .daylight) n (c .daylight) (c .grading);
+      rain = toward (l .rain) n (c .rain) (c .darkening);
+      tape = l .tape;
     }
 
--- "The machine's rest answer: every lane filter's past values, the last R samples of the warp and of every plate line, and the plate's filters hold only zeros (−0 counts)."
+unfoldable pub latched : Machine → Controls → Machine
+latched m c = record { position = m .position; lane = laneLatched (m .position) (m .lane) c; bus = m .bus }
+
+-- "The machine's rest answer: every lane filter's past values, the last R samples of the warp .. hold only zeros (−0 counts)."
+unfoldable pub laneResting : LaneMachine → Bool
+laneResting l = tapeAtRest (l .tape)
+
+-- ".. the last R samples .. of every plate line, and the plate's filters hold only zeros (−0 counts)."
+unfoldable pub busResting : BusMachine → Bool
+busResting b = atRest (b .plate)
+
 unfoldable pub resting : Machine → Bool
-resting m = tapeAtRest (m .tape) && atRest (m .plate)
+resting m = laneResting (m .lane) && busResting (m .bus)
 
 -- ---- what the machine is fed: "An accepted run feeds the machine that run's samples in order, each with the run's drums flag. An accepted latch acts at the n then reached."
 
@@ -101,3 +147,12 @@ delivers r m (latch c) = []
 unfoldable pub heardFrom : Rate → Machine → List Event → List Heard
 heardFrom r m [] = []
 heardFrom r m (e ∷ es) = delivers r m e ++ heardFrom r (fed r m e) es
+
+-- and what its lane gives the bus for them
+unfoldable pub sends : Rate → Machine → Event → List Sent
+sends r m (sample x d) = laneStep r d (m .position) (m .lane) x .out ∷ []
+sends r m (latch c) = []
+
+unfoldable pub sentFrom : Rate → Machine → List Event → List Sent
+sentFrom r m [] = []
+sentFrom r m (e ∷ es) = sends r m e ++ sentFrom r (fed r m e) es

@@ -8,10 +8,11 @@ use lib.Dec.{eqb}
 use lib.ListN.{length, getD}
 use lib.Ieee.{Float}
 use Rattle.casts.specs.Step.{stepOf}
+use Rattle.stage.specs.System.{System, through}
 use Rattle.stream.specs.declared.Frame.{Frame}
 use Rattle.rate.specs.declared.Rate.{Rate}
 use Rattle.rate.specs.Rate.{rateOf}
-use Rattle.tape.specs.Tape.{Lists, tapeStep}
+use Rattle.tape.specs.Tape.{Lists}
 use Rattle.master.specs.Ceiling.{needOf, silence}
 use Rattle.master.specs.Kept.{framesOut, countsOut}
 use Rattle.strip.specs.declared.Setup.{Setup}
@@ -22,9 +23,9 @@ use Rattle.strip.specs.declared.Outcome.{Outcome}
 use Rattle.strip.specs.declared.Outcome.the-variants.{Now, Declined}
 use Rattle.strip.specs.declared.Rested as rested
 use Rattle.strip.specs.declared.Rested.{Rested}
-use Rattle.strip.specs.Refusals.{runRefusal, latchRefusal}
-use Rattle.strip.specs.Machine.{Machine, Event, sample, latch, fresh, mixedStep, fed, fedAll, heardFrom, resting}
-use Rattle.strip.specs.Calls.{State, state, openCall, runCall, latchCall, restCall}
+use Rattle.strip.specs.Machine.{Machine, Event, sample, latch, laneStep, mixedStep, fresh, fed, fedAll, heardFrom, resting}
+use Rattle.strip.specs.Kept.{State, state}
+use Rattle.strip.specs.Calls.{firstOf, runGrounds, latchGrounds, restGrounds, openCall, runCall, latchCall, restCall}
 
 -- ---- a list of calls
 
@@ -73,17 +74,17 @@ after r st (run xs d frames gains) = let o = runCall r st xs d frames gains in s
 after r st (move c) = state (stripOf (latchCall r st c)) (st .store) (st .counts)
 after r st ask = state (restStrip (st .strip) (restCall r st)) (st .store) (st .counts)
 
-unfoldable pub through : Rate → State → List Call → List Answer
-through r st [] = []
-through r st (c ∷ cs) = answerTo r st c ∷ through r (after r st c) cs
+-- the part, which answers calls on a strip and its stores
+abbrev pub partSystem : Rate → System State Call Answer
+partSystem r = record { answer = answerTo r; next = after r }
 
 -- ---- the same list, put to the machine
 
 -- "its number is the one that the refusals give, with n as the position, and 4 declines no call of such a list"
 unfoldable pub refusal : ℕ → Call → ℕ
-refusal n (run xs d frames gains) = runRefusal n xs (length frames) (length gains)
-refusal n (move c) = latchRefusal c
-refusal n ask = 0
+refusal n (run xs d frames gains) = firstOf (runGrounds n xs (length frames) (length gains))
+refusal n (move c) = firstOf (latchGrounds c)
+refusal n ask = firstOf restGrounds
 
 unfoldable pub eventsOf : Call → List Event
 eventsOf (run xs d frames gains) = map (λ x. sample x d) xs
@@ -102,9 +103,9 @@ accepted r m ask = rests (resting m)
 unfoldable pub says : Rate → Machine → Call → Answer
 says r m c = cond (eqb (refusal (m .position) c) 0) (accepted r m c) (declined (refusal (m .position) c))
 
-unfoldable pub expected : Rate → Machine → List Call → List Answer
-expected r m [] = []
-expected r m (c ∷ cs) = says r m c ∷ expected r (fedAll r m (feeds (m .position) c)) cs
+-- the machine, which answers the same calls
+abbrev pub machineSystem : Rate → System Machine Call Answer
+machineSystem r = record { answer = says r; next = λ m c. fedAll r m (feeds (m .position) c) }
 
 -- ---- joined frames and counts
 
@@ -130,7 +131,7 @@ joinedCounts (a ∷ l) = countsOf a ++ joinedCounts l
 
 -- the joined samples, with each accepted latch at its position: what the calls feed the machine, which the positions alone pick out
 unfoldable pub takes : ℕ → Call → ℕ
-takes n (run xs d frames gains) = cond (eqb (runRefusal n xs (length frames) (length gains)) 0) (n + length xs) n
+takes n (run xs d frames gains) = cond (eqb (refusal n (run xs d frames gains)) 0) (n + length xs) n
 takes n (move c) = n
 takes n ask = n
 
@@ -142,8 +143,7 @@ joinedEvents n (c ∷ cs) = feeds n c ++ joinedEvents (takes n c) cs
 
 -- "The frame is (y + l, y + r)."
 unfoldable pub mixes : Rate → Machine → Event → List Frame
-mixes r m (sample x d) =
-    mixedStep (r .plate) (m .setup .send) (m .position) (m .plate) (tapeStep (r .tape) (m .setup .tape) (m .daylight) (m .rain) (m .lists) d (m .position) (m .tape) x .out) .out ∷ []
+mixes r m (sample x d) = mixedStep (r .plate) (m .position) (m .bus .plate) (laneStep r d (m .position) (m .lane) x .out) .out ∷ []
 mixes r m (latch c) = []
 
 unfoldable pub mixedFrom : Rate → Machine → List Event → List Frame
@@ -159,7 +159,7 @@ deliveredNeed r frames i = needOf (r .ceiling) (getD frames (i - r .ceiling .ahe
 -- What is claimed of a list of calls and of the answers to it, the strip having been opened under the setup s and the lists l. Floats are equal as values, all NaNs being one.
 pub record Joined (r : Rate) (s : Setup) (l : Lists) (cs : List Call) (answers : List Answer) : Type 0 where
   -- every answer is the machine's: frames, gain counts, rest answers, and refusal numbers "with n as the position"
-  pub machine : answers ≡ expected r (fresh r s l) cs
+  pub machine : answers ≡ through (machineSystem r) (fresh r s l) cs
   -- "Joined frames and joined gain counts .. are compared bit for bit with the machine's": they are what the fresh machine delivers for the joined samples, with each accepted latch at its
   -- position, however they are divided into calls
   pub frames : joinedFrames answers ≡ framesOut (heardFrom r (fresh r s l) (joinedEvents 0 cs))
@@ -172,7 +172,7 @@ pub record Joined (r : Rate) (s : Setup) (l : Lists) (cs : List Call) (answers :
 abbrev pub EveryList : Rate → (Setup → Lists → List Call → List Answer → Type 0) → Type 0
 EveryList r P =
     (s : Setup) (l : Lists) (store : List Float) (counts : List ℕ) (t : Strip) → openCall r s l store counts .answer ≡ opened.the-variants.Strip t
-    → (cs : List Call) → P s l cs (through r (state t (openCall r s l store counts .store) (openCall r s l store counts .counts)) cs)
+    → (cs : List Call) → P s l cs (through (partSystem r) (state t (openCall r s l store counts .store) (openCall r s l store counts .counts)) cs)
 
 unfoldable pub JoinedAt : Rate → Type 0
 JoinedAt r = EveryList r (Joined r)

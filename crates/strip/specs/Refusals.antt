@@ -1,13 +1,12 @@
--- Document 01, 'When the part declines'. Each ground is a test that is true where the part does not decline. `openRefusal`, `runRefusal` and `latchRefusal` have the numbers and
--- their order; `first` in Calls puts 1 and 4 before a call's own.
+-- Document 01, 'When the part declines': each ground as a test that is true where the part does not decline. Their numbers and their order, a list for each call, stand in Calls.
 use Prim.Native.Nat.{ℕ, _+_, _*_}
-use mathlib.Core.Bool.{Bool, true, cond, _&&_}
+use mathlib.Core.Bool.{Bool, true, _&&_}
 use mathlib.Core.List.{List}
 use lib.Dec.{leb, eqb}
 use lib.ListN.{length}
 use lib.Ieee.{Float, binary64, ofBits, neg}
 use Rattle.casts.specs.Arithmetic.{whole, nought, one}
-use Rattle.ranges.specs.Ranges.{inRange, allInRange, risingFrom}
+use Rattle.ranges.specs.Ranges.{mostPoints, mostKicks, lastPosition, inRange, allInRange, risingFrom}
 use Rattle.ramp.specs.declared.Ramp.{Ramp}
 use Rattle.automation.specs.declared.Tone.{Tone}
 use Rattle.automation.specs.declared.Tone.the-variants.{Fixed, Graded}
@@ -18,10 +17,6 @@ use Rattle.tape.specs.Tape.{Lists}
 use Rattle.rate.specs.declared.Rate.{Rate}
 use Rattle.strip.specs.declared.Setup.{Setup}
 use Rattle.strip.specs.declared.Controls.{Controls}
-
--- 2^32
-abbrev pub furthest : ℕ
-furthest = 4294967296
 
 -- "1. A lent store is shorter than 49,152 f64 or 4,096 u64 (all calls)."
 unfoldable pub longEnough : Rate → List Float → List ℕ → Bool
@@ -64,17 +59,17 @@ okSetup s = okTape (s .tape) && (okUnit (s .daylight) && (okUnit (s .rain) && ok
 -- "3. A list is too long, falls, has positions and values unequal in number, a value outside 0 to 1 or NaN, or a position above 2^32 (open)."
 -- "At most 256 sweep points (position, value 0 to 1) and 1,024 kick positions, each list never falling, positions at most 2^32."
 unfoldable pub okPoints : List ℕ → List Float → Bool
-okPoints positions values = leb (length positions) 256 && (eqb (length positions) (length values) && (risingFrom 0 positions && allInRange nought one values))
+okPoints positions values = leb (length positions) mostPoints && (eqb (length positions) (length values) && (risingFrom 0 positions && allInRange nought one values))
 
 unfoldable pub okKicks : List ℕ → Bool
-okKicks kicks = leb (length kicks) 1024 && risingFrom 0 kicks
+okKicks kicks = leb (length kicks) mostKicks && risingFrom 0 kicks
 
 unfoldable pub okLists : Lists → Bool
 okLists l = okPoints (l .positions) (l .values) && okKicks (l .kicks)
 
 -- "4. .. a ramp's start or length above 2^32"
 unfoldable pub okRamp : Ramp → Bool
-okRamp r = leb (r .start) furthest && leb (r .len) furthest
+okRamp r = leb (r .start) lastPosition && leb (r .len) lastPosition
 
 -- "5. The frame output isn't exactly 2 f32 a sample, or the count output 1 u64 a sample (run)."
 unfoldable pub okOutputs : ℕ → ℕ → ℕ → Bool
@@ -82,7 +77,7 @@ okOutputs samples frames gains = eqb frames (2 * samples) && eqb gains samples
 
 -- "6. Position plus samples exceeds 2^32 (run)."
 unfoldable pub okEnd : ℕ → ℕ → Bool
-okEnd position samples = leb (position + samples) furthest
+okEnd position samples = leb (position + samples) lastPosition
 
 -- "7. A sample is not finite or its size exceeds 1,024 (run)."
 unfoldable pub okSamples : List Float → Bool
@@ -90,15 +85,4 @@ okSamples xs = allInRange (neg (whole 1024)) (whole 1024) xs
 
 -- "8. A control is NaN or outside 0 to 1, or a ramp length exceeds 2^32 (latch)."
 unfoldable pub okControls : Controls → Bool
-okControls c = okUnit (c .daylight) && (okUnit (c .rain) && (leb (c .grading) furthest && leb (c .darkening) furthest))
-
--- ---- "Checked in this order; the first that fits is returned." 0: none fits
-
-unfoldable pub runRefusal : ℕ → List Float → ℕ → ℕ → ℕ
-runRefusal position xs frames gains = cond (okOutputs (length xs) frames gains) (cond (okEnd position (length xs)) (cond (okSamples xs) 0 7) 6) 5
-
-unfoldable pub latchRefusal : Controls → ℕ
-latchRefusal c = cond (okControls c) 0 8
-
-unfoldable pub openRefusal : Rate → Setup → Lists → List Float → List ℕ → ℕ
-openRefusal r s l store counts = cond (longEnough r store counts) (cond (okSetup s) (cond (okLists l) 0 3) 2) 1
+okControls c = okUnit (c .daylight) && (okUnit (c .rain) && (leb (c .grading) lastPosition && leb (c .darkening) lastPosition))

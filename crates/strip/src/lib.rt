@@ -1,6 +1,6 @@
-// The strip: what the four calls take and give. No code: the refusals, the one-sample machine, the calls' definitions and the
-// promise stand in specs/, the theorem about every list of calls in proofs/. The crate part has the calls.
-// Uses the crates of the stages for their types and definitions.
+// The strip: a position, a lane and a bus, and what the four calls take and give. No code: the refusals, the one-sample machine, the
+// strip as it is kept, the calls' definitions and the promise stand in specs/, the theorem about every list of calls in proofs/.
+// The crate part has the calls. Uses the crates of the stages for their types and definitions.
 use master::Ceiling;
 use plate::Plate;
 use ramp::Ramp;
@@ -15,16 +15,26 @@ pub struct Setup {
     pub send: f64,
 }
 
-// A strip: how many samples it has taken, what it was opened with, its two ramps, and what its stages keep.
-pub struct Strip {
-    pub position: u64,
+// A lane: what it was opened with, its two ramps, and what the tape keeps.
+pub struct Lane {
     pub setup: Setup,
     pub points: usize,
     pub daylight: Ramp,
     pub rain: Ramp,
     pub tape: Tape,
+}
+
+// The bus that a lane sends to: what the plate and the ceiling keep.
+pub struct Bus {
     pub plate: Plate,
     pub ceiling: Ceiling,
+}
+
+// A strip: how many samples it has taken, its lane and its bus.
+pub struct Strip {
+    pub position: u64,
+    pub lane: Lane,
+    pub bus: Bus,
 }
 
 // What latch takes: a target for each ramp, and over how many samples.
