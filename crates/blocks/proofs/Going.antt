@@ -3,9 +3,9 @@ use mathlib.Core.Path.{_≡_, refl, sym, ap, subst⁻¹, _∙_}
 use mathlib.Core.Bool.{Bool, true, false}
 use Prim.Native.Nat.{ℕ, zero, suc, _+_, _-_, _*_, _≤_}
 use native.Mathlib.Omega.{arith}
-use mathlib.Core.List.{List, [], _∷_, _++_}
+use mathlib.Core.List.{List, [], _∷_}
 use lib.Dec.{T}
-use lib.ListN.{length, take, drop, length-map, length-append, length-drop}
+use lib.ListN.{length, take, drop, length-map, length-drop}
 use lib.Ieee.{Float}
 use borrow.Rule.Slice.PartMut.{putMid}
 use Rattle.stage.specs.Stage.{Step, ran, outs, identity, flatMap}
@@ -15,7 +15,7 @@ use Rattle.stage.proofs.Loop.{Wrote, Gone, wrote-start, wrote-done, gone-start,
 use Rattle.stage.proofs.Block.{gone-outs, gone-block, wrote-block, flat-take, flat-drop, flat-length}
 use Rattle.rate.specs.declared.Rate.{Rate}
 use Rattle.rate.specs.declared.TapeRate.{TapeRate}
-use Rattle.rate.specs.Rate.{RateUsable, valuesAt, positionsAt}
+use Rattle.rate.specs.Rate.{RateUsable}
 use Rattle.ramp.specs.declared.Ramp.{Ramp}
 use Rattle.sidechain.specs.declared.DuckRate.{DuckRate}
 use Rattle.duck.specs.Cursors.{DuckIn, duckOn, duckStepOn, Within}
@@ -28,15 +28,18 @@ use Rattle.tape.proofs.Related.{ring-sized, counts-sized}
 use Rattle.plate.specs.Plate.{PlateIn}
 use Rattle.master.specs.declared.Heard.{Heard}
 use Rattle.master.specs.Kept.{CeilingIn, ceilingStepOn, framesOut, countsOut}
-use Rattle.master.specs.WellFormed.{wellFormed, Sized}
+use Rattle.master.specs.WellFormed.{wellFormed}
 use Rattle.master.proofs.Ready.{ready-of, of-ready}
 use Rattle.master.proofs.Stays.{ready-next}
-use Rattle.strip.specs.declared.Strip.{Strip}
-use Rattle.strip.specs.Calls.{State, tapeIn, plateIn, ceilingIn, listsIn, whole, mixedStepOn, stepOn}
-use Rattle.strip.proofs.Parts.{Long, tape-of, ceiling-of, parts-long}
-use Rattle.strip.proofs.Sizes.{plate-sized, samples-sized}
-use Rattle.strip.proofs.Sizes as sizes
-use Rattle.blocks.specs.Run.{Runs, RanAll, allRan}
+use Rattle.strip.specs.declared.Lane.{Lane}
+use Rattle.strip.specs.Machine.{Sent}
+use Rattle.strip.specs.Kept.{LaneIn, tapeIn, valuesRoom, positionsRoom, listsIn, laneStepOn, BusIn, plateIn, ceilingIn, mixedStepOn, busStepOn, State, busIn, laneIn, samplesBehind, countsBehind, stepOn}
+use Rattle.strip.proofs.Sizes.{plate-sized}
+use Rattle.strip.proofs.LaneRelates.{TapeLong, tape-of, tape-long, lane-sized}
+use Rattle.strip.proofs.BusRelates.{ceiling-of, plate-long, ceiling-sized, bus-sized}
+use Rattle.strip.proofs.Parts.{Long, bus-of, lane-of, sized-again}
+use Rattle.strip.proofs.Relates.{step-position}
+use Rattle.blocks.specs.Run.{LaneRuns, BusRuns, Runs, RanAll, allRan}
 
 -- ---- a sample leaves a strip that can run on
 
@@ -51,86 +54,69 @@ unfolding tapeStepOn tapeTuned
 tape-within r s daylight rain l d n t x w =
     ducked-within (r .duck) (s .ducked) d n _ _ (rw (tuned-duck r (s .tone) daylight (l .positions) (l .values) n (t .tape)) w)
 
-whole-long : (r : Rate) (s : Strip) (values : List Float) (positions : List ℕ) (n : ℕ) (t : TapeIn) (p : PlateIn) (c : CeilingIn) → Long r t p c
-    → (length (whole s values positions n t p c .store) ≡ valuesAt r + length values) × (length (whole s values positions n t p c .counts) ≡ positionsAt r + length positions)
-whole-long r s values positions n t p c l =
-    let a = length-append (t .ring) (p .part ++ (c .samples ++ values)) in
-    let b = length-append (p .part) (c .samples ++ values) in
-    let e = length-append (c .samples) values in
-    let f = length-append (t .counts) (c .counts ++ positions) in
-    let g = length-append (c .counts) positions in
-    (omega (arith, l .tape, l .plate, l .ceiling), omega (arith, l .ducks, l .gains))
+-- the lane
+module _ (r : Rate) (d : Bool) (n : ℕ) (k : LaneIn) (x : Float) (g : LaneRuns r k) where
+  abbrev s : Lane
+  s = k .lane
 
-module _ (r : Rate) (u : RateUsable r) (d : Bool) (n : ℕ) (st : State) (x : Float) (g : Runs r st) where
-  abbrev s : Strip
-  s = st .strip
+  abbrev y : TapeIn
+  y = tapeStepOn (r .tape) (s .setup .tape) (s .daylight) (s .rain) (listsIn r k) d n (tapeIn r k) x .next
 
-  abbrev y : Step TapeIn Float
-  y = tapeStepOn (r .tape) (s .setup .tape) (s .daylight) (s .rain) (listsIn r st) d n (tapeIn r st) x
-
-  abbrev f : Step PlateIn Frame
-  f = mixedStepOn (r .plate) (s .setup .send) n (plateIn r st) (y .out)
-
-  abbrev h : Step CeilingIn Heard
-  h = ceilingStepOn (r .ceiling) n (ceilingIn r st) (f .out)
-
-  abbrev next : State
-  next = whole s (drop (valuesAt r) (st .store)) (drop (positionsAt r) (st .counts)) (n + 1) (y .next) (f .next) (h .next)
-
-  room : valuesAt r ≤ length (st .store)
-  room = let a = g .long in let k = u .samples in omega arith
-
-  rooms : positionsAt r ≤ length (st .counts)
-  rooms = let a = g .wide in let k = u .counts in omega arith
-
-  before : Long r (tapeIn r st) (plateIn r st) (ceilingIn r st)
-  before = parts-long r st room rooms
-
-  parts : Long r (y .next) (f .next) (h .next)
-  unfolding mixedStepOn
-  parts =
+  next-long : TapeLong r y
+  next-long =
+      let long = tape-long r k (g .long) in
       record {
-        tape = ring-sized (r .tape) (s .setup .tape) (s .daylight) (s .rain) (listsIn r st) d n (tapeIn r st) x ∙ before .tape;
-        plate = plate-sized (r .plate) n (plateIn r st) _ ∙ before .plate;
-        ceiling = samples-sized (r .ceiling) n (ceilingIn r st) _ ∙ before .ceiling;
-        ducks = counts-sized (r .tape) (s .setup .tape) (s .daylight) (s .rain) (listsIn r st) d n (tapeIn r st) x ∙ before .ducks;
-        gains = sizes.counts-sized (r .ceiling) n (ceilingIn r st) _ ∙ before .gains;
+        ring = ring-sized (r .tape) (s .setup .tape) (s .daylight) (s .rain) (listsIn r k) d n (tapeIn r k) x ∙ long .ring;
+        counts = counts-sized (r .tape) (s .setup .tape) (s .daylight) (s .rain) (listsIn r k) d n (tapeIn r k) x ∙ long .counts;
       }
 
-  sized : Sized (r .ceiling) (ceilingIn r st .samples) (ceilingIn r st .counts)
-  sized = record { room = omega (arith, before .ceiling); rooms = omega (arith, before .gains) }
-
-  runs-next : Runs r next
-  runs-next =
-      let l = whole-long r s (drop (valuesAt r) (st .store)) (drop (positionsAt r) (st .counts)) (n + 1) (y .next) (f .next) (h .next) parts in
-      let a = length-drop (valuesAt r) (st .store) in
-      let b = length-drop (positionsAt r) (st .counts) in
-      let i = room in
-      let j = rooms in
+  lane-runs : LaneRuns r (laneStepOn r d n k x .next)
+  unfolding laneStepOn
+  lane-runs =
       record {
-        long = omega (arith, l .0, g .long);
-        wide = omega (arith, l .1, g .wide);
+        long = lane-sized r d n k x (g .long);
         few = g .few;
         ducks =
-            subst⁻¹ (λ (w : TapeIn). Within (duckOn (y .next .tape .duck) (w .counts))) (tape-of r s (drop (valuesAt r) (st .store)) (drop (positionsAt r) (st .counts)) (n + 1) (y .next) (f .next) (h .next) parts)
-            (tape-within (r .tape) (s .setup .tape) (s .daylight) (s .rain) (listsIn r st) d n (tapeIn r st) x (g .ducks));
-        well =
-            subst⁻¹ (λ (w : CeilingIn). T (wellFormed (r .ceiling) w)) (ceiling-of r s (drop (valuesAt r) (st .store)) (drop (positionsAt r) (st .counts)) (n + 1) (y .next) (f .next) (h .next) parts)
-            (of-ready (r .ceiling) (h .next) (ready-next (r .ceiling) (u .ceiling) n (ceilingIn r st) (f .out) (ready-of (r .ceiling) (ceilingIn r st) sized (g .well))));
+            subst⁻¹ (λ (w : TapeIn). Within (duckOn (y .tape .duck) (w .counts))) (tape-of r s (valuesRoom r k) (positionsRoom k) y next-long)
+            (tape-within (r .tape) (s .setup .tape) (s .daylight) (s .rain) (listsIn r k) d n (tapeIn r k) x (g .ducks));
       }
 
-  pub step-runs : Runs r (stepOn r d n st x .next)
-  unfolding stepOn
-  step-runs = runs-next
+-- the bus
+module _ (r : Rate) (u : RateUsable r) (n : ℕ) (b : BusIn) (s : Sent) (g : BusRuns r b) where
+  abbrev f : Step PlateIn Frame
+  f = mixedStepOn (r .plate) n (plateIn r b) s
+
+  abbrev h : Step CeilingIn Heard
+  h = ceilingStepOn (r .ceiling) n (ceilingIn r b) (f .out)
+
+  bus-runs : BusRuns r (busStepOn r n b s .next)
+  unfolding busStepOn mixedStepOn
+  bus-runs =
+      record {
+        long = bus-sized r n b s (g .long);
+        well =
+            subst⁻¹ (λ (w : CeilingIn). T (wellFormed (r .ceiling) w)) (ceiling-of r (f .next) (h .next) (plate-sized (r .plate) n (plateIn r b) (s .sent) ∙ plate-long r b (g .long)))
+            (of-ready (r .ceiling) (h .next) (ready-next (r .ceiling) (u .ceiling) n (ceilingIn r b) (f .out) (ready-of (r .ceiling) (ceilingIn r b) (ceiling-sized r b (g .long)) (g .well))));
+      }
+
+step-runs : (r : Rate) → RateUsable r → (d : Bool) (n : ℕ) (st : State) (x : Float) → Runs r st → Runs r (stepOn r d n st x .next)
+unfolding stepOn
+step-runs r u d n st x g =
+    let y = laneStepOn r d n (laneIn r st) x in
+    let h = busStepOn r n (busIn r st) (y .out) in
+    let k = lane-runs r d n (laneIn r st) x (g .lane) in
+    let b = bus-runs r u n (busIn r st) (y .out) (g .bus) in
+    let long : Long r (y .next) (h .next) = record { lane = k .long; bus = b .long } in
+    record {
+      sized = sized-again r u st (g .sized) (n + 1) (y .next) (h .next) long;
+      lane = subst⁻¹ (LaneRuns r) (lane-of r (n + 1) (y .next) (h .next) (samplesBehind r (st .store)) (countsBehind r (st .counts)) long) k;
+      bus = subst⁻¹ (BusRuns r) (bus-of r (n + 1) (y .next) (h .next) (samplesBehind r (st .store)) (countsBehind r (st .counts)) long) b;
+    }
 
 pub ran-runs : (r : Rate) → RateUsable r → (d : Bool) (xs : List Float) (n : ℕ) (st : State) → Runs r st → Runs r (ran (stepOn r d) n st xs)
 unfolding ran
 ran-runs r u d [] n st g = g
 ran-runs r u d (x ∷ xs) n st g = ran-runs r u d xs (n + 1) (stepOn r d n st x .next) (step-runs r u d n st x g)
-
-step-position : (r : Rate) (d : Bool) (n : ℕ) (st : State) (x : Float) → stepOn r d n st x .next .strip .position ≡ n + 1
-unfolding stepOn
-step-position r d n st x = refl
 
 pub ran-position : (r : Rate) (d : Bool) (xs : List Float) (n : ℕ) (st : State) → st .strip .position ≡ n → ran (stepOn r d) n st xs .strip .position ≡ n + length xs
 unfolding ran

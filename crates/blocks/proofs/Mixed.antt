@@ -1,4 +1,4 @@
--- The plate with what it is mixed with, over a block: sent, through the plate, added. Assumes nothing.
+-- What is sent, and the plate with what it is mixed with, over a block. Assumes nothing.
 use mathlib.Core.Path.{_≡_, refl, ap}
 use Prim.Native.Nat.{ℕ, zero, suc, _+_, _<_}
 use native.Mathlib.Omega.{arith}
@@ -10,8 +10,14 @@ use Rattle.stage.specs.Stage.{ran, outs}
 use Rattle.stream.specs.declared.Frame.{Frame}
 use Rattle.rate.specs.declared.PlateRate.{PlateRate}
 use Rattle.plate.specs.Plate.{PlateIn, plateStepOn}
-use Rattle.strip.specs.Calls.{mixedStepOn}
-use Rattle.blocks.specs.Run.{added}
+use Rattle.strip.specs.Machine.{Sent, sentAt, mixOf}
+use Rattle.strip.specs.Kept.{mixedStepOn}
+use Rattle.blocks.specs.Run.{sentsIn, added}
+
+pub sents-map : (send : Float) (ys : List Float) → sentsIn ys (map (λ y. y ⊗ send) ys) ≡ map (sentAt send) ys
+unfolding sentsIn
+sents-map send [] = refl
+sents-map send (y ∷ ys) = ap (λ (l : List Sent). sentAt send y ∷ l) (sents-map send ys)
 
 pub added-length : (ys ss : List Float) → length ss ≡ length ys → length (added ys ss) ≡ length ys
 unfolding added
@@ -26,25 +32,20 @@ added-at (y ∷ ys) [] i e h = absurd (omega arith)
 added-at (y ∷ ys) (s ∷ ss) zero e h = refl
 added-at (y ∷ ys) (s ∷ ss) (suc i) e h = added-at ys ss i (omega arith) (omega arith)
 
-module _ (r : PlateRate) (level : Float) where
-  abbrev sent : List Float → List Float
-  sent ys = map (λ y. y ⊗ level) ys
+module _ (r : PlateRate) where
+  pub mixed-ran : (n : ℕ) (p : PlateIn) (ys ss : List Float) → length ss ≡ length ys → ran (mixedStepOn r) n p (sentsIn ys ss) ≡ ran (plateStepOn r) n p ss
+  unfolding ran mixedStepOn sentsIn
+  mixed-ran n p [] [] e = refl
+  mixed-ran n p [] (s ∷ ss) e = absurd (omega arith)
+  mixed-ran n p (y ∷ ys) [] e = absurd (omega arith)
+  mixed-ran n p (y ∷ ys) (s ∷ ss) e = mixed-ran (n + 1) (plateStepOn r n p s .next) ys ss (omega arith)
 
-  pub mixed-ran : (n : ℕ) (p : PlateIn) (ys : List Float) → ran (mixedStepOn r level) n p ys ≡ ran (plateStepOn r) n p (sent ys)
-  unfolding ran mixedStepOn
-  mixed-ran n p [] = refl
-  mixed-ran n p (y ∷ ys) = mixed-ran (n + 1) (plateStepOn r n p (y ⊗ level) .next) ys
-
-  pub mixed-left : (n : ℕ) (p : PlateIn) (ys : List Float)
-      → map (λ (f : Frame). f .left) (outs (mixedStepOn r level) n p ys) ≡ added ys (map (λ (f : Frame). f .left) (outs (plateStepOn r) n p (sent ys)))
-  unfolding outs mixedStepOn added
-  mixed-left n p [] = refl
-  mixed-left n p (y ∷ ys) =
-      ap (λ (l : List Float). (y ⊕ plateStepOn r n p (y ⊗ level) .out .left) ∷ l) (mixed-left (n + 1) (plateStepOn r n p (y ⊗ level) .next) ys)
-
-  pub mixed-right : (n : ℕ) (p : PlateIn) (ys : List Float)
-      → map (λ (f : Frame). f .right) (outs (mixedStepOn r level) n p ys) ≡ added ys (map (λ (f : Frame). f .right) (outs (plateStepOn r) n p (sent ys)))
-  unfolding outs mixedStepOn added
-  mixed-right n p [] = refl
-  mixed-right n p (y ∷ ys) =
-      ap (λ (l : List Float). (y ⊕ plateStepOn r n p (y ⊗ level) .out .right) ∷ l) (mixed-right (n + 1) (plateStepOn r n p (y ⊗ level) .next) ys)
+  -- a side of the frames
+  module _ (side : Frame → Float) (mix : (y : Float) (f : Frame) → side (mixOf y f) ≡ y ⊕ side f) where
+    pub mixed-side : (n : ℕ) (p : PlateIn) (ys ss : List Float) → length ss ≡ length ys
+        → map side (outs (mixedStepOn r) n p (sentsIn ys ss)) ≡ added ys (map side (outs (plateStepOn r) n p ss))
+    unfolding outs mixedStepOn sentsIn added
+    mixed-side n p [] [] e = refl
+    mixed-side n p [] (s ∷ ss) e = absurd (omega arith)
+    mixed-side n p (y ∷ ys) [] e = absurd (omega arith)
+    mixed-side n p (y ∷ ys) (s ∷ ss) e = rw (mix y (plateStepOn r n p s .out), mixed-side (n + 1) (plateStepOn r n p s .next) ys ss (omega arith))

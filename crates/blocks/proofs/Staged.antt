@@ -1,148 +1,216 @@
--- The three stages, each lent its own parts of the stores, one after the other: what they leave in the whole. Assumes nothing.
-use mathlib.Core.Path.{_≡_, refl, sym, ap, subst, _∙_}
+-- A block of the lane, of the bus and of the strip: what the calls inside leave in their parts is what the definitions say of the whole. Assumes nothing.
+use mathlib.Core.Path.{_≡_, refl, sym, ap, subst⁻¹, _∙_}
 use mathlib.Core.Bool.{Bool}
-use Prim.Native.Nat.{ℕ, _+_, _-_, _<_, _≤_}
+use Prim.Native.Nat.{ℕ, _+_, _-_, _≤_}
 use native.Mathlib.Omega.{arith}
-use mathlib.Core.List.{List, [], _∷_, _++_, map, append-assoc}
-use lib.ListN.{length, take, drop, length-append}
+use mathlib.Core.List.{List, [], _∷_, _++_, map}
+use lib.Dec.{T}
+use lib.ListN.{length, take, drop}
+use lib.Seq.{length-take-le}
 use lib.Ieee.{Float}
 use borrow.Rule.Slice.PartMut.{midOf, putMid}
+use Rattle.casts.specs.Arithmetic.{_⊗_}
 use Rattle.stage.specs.Stage.{Stage, ran, outs}
-use Rattle.stage.proofs.Parts.{mid-at, put-at}
+use Rattle.stage.proofs.Parts.{behind-lent, behind-put}
 use Rattle.stream.specs.declared.Frame.{Frame}
 use Rattle.rate.specs.declared.Rate.{Rate}
-use Rattle.rate.specs.Rate.{tapeSamples, plateSamples, ceilingSamples, valuesAt, ceilingCounts, positionsAt}
+use Rattle.rate.specs.Rate.{RateUsable}
+use Rattle.rate.specs.Stores.{plateSamples, busSamples, busCounts, warpSamples, laneSamples, laneCounts}
+use Rattle.duck.specs.Cursors.{duckCounts}
 use Rattle.tape.specs.declared.Tape.{Tape}
-use Rattle.tape.specs.Kept.{TapeIn, tapeOn, tapeTuned, tunedAt, tapeStepOn}
+use Rattle.tape.specs.Kept.{WarpFits, TapeIn, tapeOn, tapeTuned, tunedAt, tapeStepOn}
 use Rattle.tape.proofs.Lasting.{tuned-ran, tuned-outs}
 use Rattle.plate.specs.declared.Plate.{Plate}
 use Rattle.plate.specs.Plate.{PlateIn, plateOn}
 use Rattle.master.specs.declared.Ceiling.{Ceiling}
 use Rattle.master.specs.declared.Heard.{Heard}
 use Rattle.master.specs.Kept.{CeilingIn, ceilingOn, ceilingStepOn, framesIn, framesOut, countsOut}
+use Rattle.master.specs.WellFormed.{wellFormed, Sized}
+use Rattle.strip.specs.declared.Lane.{Lane}
+use Rattle.strip.specs.declared.Bus.{Bus}
 use Rattle.strip.specs.declared.Strip.{Strip}
-use Rattle.strip.specs.Calls.{State, state, tapeIn, plateIn, ceilingIn, whole, mixedStepOn, stepOn}
-use Rattle.strip.proofs.Parts.{Long, parts-long, is-whole}
-use Rattle.strip.proofs.Chain.{pointsAt, chain-ran, chain-outs}
-use Rattle.blocks.specs.Run.{Piecewise, tunedOf, RanAll, ranAll, allRan}
+use Rattle.strip.specs.Machine.{Sent, sentAt}
+use Rattle.strip.specs.Kept.{LaneIn, laneOn, tapeIn, valuesRoom, positionsRoom, laneOf, laneStepOn, BusIn, busOn, plateIn, ceilingIn, busOf, mixedStepOn, busStepOn, State, state, busIn, laneIn, samplesBehind, countsBehind, stateOf, stepOn}
+use Rattle.strip.proofs.LaneRelates.{TapeLong, tape-long, lane-whole, pointsAt, lane-ran, lane-outs}
+use Rattle.strip.proofs.BusRelates.{plate-long, ceiling-sized, bus-whole, bus-ran, bus-outs}
+use Rattle.strip.proofs.Parts.{Long, parts-long, is-whole, lane-lent, bus-lent, both-back, chain-ran, chain-outs}
+use Rattle.blocks.specs.Run.{sentsIn, LaneRuns, BusRuns, Runs, tunedOf, Piecewise, RanAll, ranAll, allRan}
+use Rattle.blocks.proofs.Mixed.{sents-map}
 
-abbrev made : State → List Float → List ℕ → RanAll
-made st frames gains = record { end = st; frames = frames; gains = gains }
+-- ---- the lane, whose tape is lent the first w samples and the duck's counts
+
+pub warp-fits : (r : Rate) → RateUsable r → (samples : List Float) (w : ℕ) → w ≡ warpSamples (r .tape) → length samples ≡ laneSamples r → WarpFits (r .tape) (midOf 0 (w - 0) samples)
+warp-fits r u samples w at e =
+    let n : w - 0 ≡ warpSamples (r .tape) = omega arith in
+    let l : length (midOf 0 (w - 0) samples) ≡ warpSamples (r .tape) = rw n (length-take-le (warpSamples (r .tape)) samples (omega arith)) in
+    record { some = u .tape .warp .some; room = rw (l, u .tape .placed) (omega arith); reach = u .tape .reach }
+
+module _ (r : Rate) (k : Lane) (tuned : Tape) (d : Bool) (n : ℕ) (samples : List Float) (counts : List ℕ) (xs : List Float)
+    (runs : LaneRuns r (laneOn k samples counts)) (is : tuned ≡ tunedOf r n (laneOn k samples counts)) (piece : Piecewise (tuned .until) n (length xs)) where
+  abbrev kept : LaneIn
+  kept = laneOn k samples counts
+
+  abbrev t : TapeIn
+  t = tapeIn r kept
+
+  abbrev each : Stage TapeIn Float Float
+  each = tapeStepOn (r .tape) (k .setup .tape) (k .daylight) (k .rain) (pointsAt k (valuesRoom r kept) (positionsRoom kept) []) d
+
+  abbrev once : Stage TapeIn Float Float
+  once = tapeTuned (r .tape) (k .setup .tape) (k .rain) d
+
+  long : TapeLong r t
+  long = tape-long r kept (runs .long)
+
+  few : n + length xs ≤ tunedAt (r .tape) (k .setup .tape .tone) (k .daylight) (take (k .points) (positionsRoom kept)) (take (k .points) (valuesRoom r kept)) n (k .tape) .until
+  few = rw is at (piece .few)
+
+  module _ (w : ℕ) (at : w ≡ warpSamples (r .tape)) (tape : Tape) (A : List Float) (U : List ℕ) (ys ss : List Float)
+      (tape-ran : tapeOn tape A U ≡ ran once n (tapeOn tuned (midOf 0 (w - 0) samples) (midOf 0 duckCounts counts)) xs)
+      (tape-gave : ys ≡ outs once n (tapeOn tuned (midOf 0 (w - 0) samples) (midOf 0 duckCounts counts)) xs)
+      (sent : ss ≡ map (λ y. y ⊗ k .setup .send) ys) where
+    warps : w - 0 ≡ warpSamples (r .tape)
+    warps = omega arith
+
+    pub lane-ended : laneOn (record { setup = k .setup; points = k .points; daylight = k .daylight; rain = k .rain; tape = tape }) (putMid 0 (w - 0) samples A) (putMid 0 duckCounts counts U)
+        ≡ ran (laneStepOn r d) n kept xs
+    lane-ended =
+        let s : tapeOn tape A U ≡ ran each n t xs = (rw (warps, is) at tape-ran) ∙ sym (tuned-ran (r .tape) (k .setup .tape) (k .daylight) (k .rain) (pointsAt k (valuesRoom r kept) (positionsRoom kept) []) d n t xs (piece .some) few) in
+        rw warps
+        (ap (laneOf k (valuesRoom r kept) (positionsRoom kept)) s
+        ∙ sym (lane-ran r k (valuesRoom r kept) (positionsRoom kept) [] d n t long xs)
+        ∙ ap (λ (v : LaneIn). ran (laneStepOn r d) n v xs) (lane-whole r kept))
+
+    pub lane-gave : sentsIn ys ss ≡ outs (laneStepOn r d) n kept xs
+    lane-gave =
+        let y : ys ≡ outs each n t xs = (rw (warps, is) at tape-gave) ∙ sym (tuned-outs (r .tape) (k .setup .tape) (k .daylight) (k .rain) (pointsAt k (valuesRoom r kept) (positionsRoom kept) []) d n t xs (piece .some) few) in
+        ap (sentsIn ys) sent
+        ∙ sents-map (k .setup .send) ys
+        ∙ ap (map (sentAt (k .setup .send))) y
+        ∙ sym (lane-outs r k (valuesRoom r kept) (positionsRoom kept) [] d n t long xs)
+        ∙ ap (λ (v : LaneIn). outs (laneStepOn r d) n v xs) (lane-whole r kept)
+
+-- ---- the bus, whose plate is lent the first p samples, and the ceiling those behind them
 
 frames-maps : (fs : List Frame) → framesIn (map (λ (f : Frame). f .left) fs) (map (λ (f : Frame). f .right) fs) ≡ fs
 unfolding framesIn
 frames-maps [] = refl
 frames-maps (f ∷ fs) = ap (λ (l : List Frame). f ∷ l) (frames-maps fs)
 
--- what the three calls say, each of its own parts; a, b, c and e are where the parts end
-pub record Called (r : Rate) (s : Strip) (lane : Tape) (d : Bool) (l : List Float) (u : List ℕ) (xs : List Float) (a b c e : ℕ)
-    (tape : Tape) (plate : Plate) (ceiling : Ceiling) (A B C : List Float) (U G : List ℕ) (ys ls rs fs : List Float) (gs : List ℕ) : Type 0 where
-  pub at-plate : a ≡ tapeSamples r
-  pub at-ceiling : b ≡ tapeSamples r + plateSamples r
-  pub at-values : c ≡ valuesAt r
-  pub at-positions : e ≡ positionsAt r
-  pub lane-ran : tapeOn tape A U ≡ ran (tapeTuned (r .tape) (s .setup .tape) (s .rain) d) (s .position) (tapeOn lane (midOf 0 (a - 0) l) (midOf 0 2048 u)) xs
-  pub lane-gave : ys ≡ outs (tapeTuned (r .tape) (s .setup .tape) (s .rain) d) (s .position) (tapeOn lane (midOf 0 (a - 0) l) (midOf 0 2048 u)) xs
-  pub mix-ran : plateOn plate B ≡ ran (mixedStepOn (r .plate) (s .setup .send)) (s .position) (plateOn (s .plate) (midOf a (b - a) (putMid 0 (a - 0) l A))) ys
-  pub mix-left : ls ≡ map (λ (f : Frame). f .left) (outs (mixedStepOn (r .plate) (s .setup .send)) (s .position) (plateOn (s .plate) (midOf a (b - a) (putMid 0 (a - 0) l A))) ys)
-  pub mix-right : rs ≡ map (λ (f : Frame). f .right) (outs (mixedStepOn (r .plate) (s .setup .send)) (s .position) (plateOn (s .plate) (midOf a (b - a) (putMid 0 (a - 0) l A))) ys)
-  pub ceiling-ran : ceilingOn ceiling C G
-      ≡ ran (ceilingStepOn (r .ceiling)) (s .position) (ceilingOn (s .ceiling) (midOf b (c - b) (putMid a (b - a) (putMid 0 (a - 0) l A) B)) (midOf 2048 (e - 2048) (putMid 0 2048 u U))) (framesIn ls rs)
-  pub ceiling-frames : fs
-      ≡ framesOut (outs (ceilingStepOn (r .ceiling)) (s .position) (ceilingOn (s .ceiling) (midOf b (c - b) (putMid a (b - a) (putMid 0 (a - 0) l A) B)) (midOf 2048 (e - 2048) (putMid 0 2048 u U))) (framesIn ls rs))
-  pub ceiling-gains : gs
-      ≡ countsOut (outs (ceilingStepOn (r .ceiling)) (s .position) (ceilingOn (s .ceiling) (midOf b (c - b) (putMid a (b - a) (putMid 0 (a - 0) l A) B)) (midOf 2048 (e - 2048) (putMid 0 2048 u U))) (framesIn ls rs))
-  pub lane-length : length A ≡ tapeSamples r
-  pub plate-length : length B ≡ plateSamples r
-  pub duck-length : length U ≡ 2048
+module _ (r : Rate) (b : Bus) (n : ℕ) (samples : List Float) (counts : List ℕ) (ss : List Sent) (runs : BusRuns r (busOn b samples counts)) where
+  abbrev on : BusIn
+  on = busOn b samples counts
 
--- the stores as they then are
-abbrev storeAfter : ℕ → ℕ → ℕ → List Float → List Float → List Float → List Float → List Float
-storeAfter a b c l A B C = putMid b (c - b) (putMid a (b - a) (putMid 0 (a - 0) l A) B) C
+  abbrev mix : Stage PlateIn Sent Frame
+  mix = mixedStepOn (r .plate)
 
-abbrev countsAfter : ℕ → List ℕ → List ℕ → List ℕ → List ℕ
-countsAfter e u U G = putMid 2048 (e - 2048) (putMid 0 2048 u U) G
+  abbrev limit : Stage CeilingIn Frame Heard
+  limit = ceilingStepOn (r .ceiling)
 
-module _ (r : Rate) (s : Strip) (lane : Tape) (d : Bool) (xs : List Float) (tape : Tape) (plate : Plate) (ceiling : Ceiling)
-    (A B C : List Float) (U G : List ℕ) (ys ls rs fs : List Float) (gs : List ℕ) where
-  abbrev after : ℕ → ℕ → ℕ → ℕ → List Float → List ℕ → RanAll
-  after a b c e l u =
-      ranAll
-      (record { position = s .position + length xs; setup = s .setup; points = s .points; daylight = s .daylight; rain = s .rain; tape = tape; plate = plate; ceiling = ceiling })
-      (storeAfter a b c l A B C) (countsAfter e u U G) fs gs
+  abbrev mixed : List Frame
+  mixed = outs mix n (plateIn r on) ss
 
-  -- the stores in their parts
-  module _ (t : TapeIn) (p : PlateIn) (k : CeilingIn) (R : List Float) (M : List ℕ) (is-tape : t .tape ≡ s .tape) (is-plate : p .plate ≡ s .plate) (is-ceiling : k .ceiling ≡ s .ceiling)
-      (long : Long r t p k) (some : 0 < length xs) (few : s .position + length xs ≤ lane .until)
-      (lane-is : lane ≡ tunedAt (r .tape) (s .setup .tape .tone) (s .daylight) (take (s .points) M) (take (s .points) R) (s .position) (s .tape)) where
-    abbrev n : ℕ
-    n = s .position
+  plates : length (plateIn r on .part) ≡ plateSamples (r .plate)
+  plates = plate-long r on (runs .long)
 
-    abbrev l : List Float
-    l = t .ring ++ (p .part ++ (k .samples ++ R))
+  module _ (p : ℕ) (at : p ≡ plateSamples (r .plate)) (B : List Float) (sized : length B ≡ p) where
+    abbrev half : List Float
+    half = B ++ drop (p - 0) samples
 
-    abbrev u : List ℕ
-    u = t .counts ++ (k .counts ++ M)
+    -- what the ceiling is lent
+    abbrev lent : CeilingIn
+    lent = ceilingOn (b .ceiling) (midOf p (length half - p) half) counts
 
-    abbrev tuning-step : Stage TapeIn Float Float
-    tuning-step = tapeStepOn (r .tape) (s .setup .tape) (s .daylight) (s .rain) (pointsAt s R M []) d
+    ceiling-lent : lent ≡ ceilingIn r on
+    ceiling-lent = rw (behind-lent p samples B sized, at)
 
-    abbrev mix : Stage PlateIn Float Frame
-    mix = mixedStepOn (r .plate) (s .setup .send)
+    pub ceiling-room : Sized (r .ceiling) (lent .samples) (lent .counts)
+    ceiling-room = subst⁻¹ (λ (c : CeilingIn). Sized (r .ceiling) (c .samples) (c .counts)) ceiling-lent (ceiling-sized r on (runs .long))
 
-    abbrev limit : Stage CeilingIn Frame Heard
-    limit = ceilingStepOn (r .ceiling)
+    pub ceiling-well : T (wellFormed (r .ceiling) lent)
+    ceiling-well = subst⁻¹ (λ (c : CeilingIn). T (wellFormed (r .ceiling) c)) ceiling-lent (runs .well)
 
-    pub staged-parts : (a b c e : ℕ) → Called r s lane d l u xs a b c e tape plate ceiling A B C U G ys ls rs fs gs → after a b c e l u ≡ allRan r d (whole s R M n t p k) xs
-    staged-parts a b c e q =
-        -- how long the lent parts are
-        let ka : a - 0 ≡ tapeSamples r = omega (arith, q .at-plate) in
-        let kb : b - a ≡ plateSamples r = omega (arith, q .at-plate, q .at-ceiling) in
-        let kc : c - b ≡ ceilingSamples r = omega (arith, q .at-ceiling, q .at-values) in
-        let ke : e - 2048 ≡ ceilingCounts r = omega (arith, q .at-positions) in
-        let ea : a ≡ tapeSamples r = q .at-plate in
-        let eb : b ≡ tapeSamples r + plateSamples r = q .at-ceiling in
-        let AB : length (A ++ B) ≡ tapeSamples r + plateSamples r = length-append A B ∙ omega (arith, q .lane-length, q .plate-length) in
-        -- what is lent, and the whole with what comes back
-        let m₀ : midOf 0 (a - 0) l ≡ t .ring = rw ka (mid-at [] (t .ring) (p .part ++ (k .samples ++ R)) 0 (tapeSamples r) refl (long .tape)) in
-        let p₀ : putMid 0 (a - 0) l A ≡ A ++ (p .part ++ (k .samples ++ R)) = rw ka (put-at [] (t .ring) (p .part ++ (k .samples ++ R)) 0 (tapeSamples r) refl (long .tape) A) in
-        let v₀ : midOf 0 2048 u ≡ t .counts = mid-at [] (t .counts) (k .counts ++ M) 0 2048 refl (long .ducks) in
-        let w₀ : putMid 0 2048 u U ≡ U ++ (k .counts ++ M) = put-at [] (t .counts) (k .counts ++ M) 0 2048 refl (long .ducks) U in
-        let m₁ : midOf a (b - a) (putMid 0 (a - 0) l A) ≡ p .part = rw (p₀, kb, ea) (mid-at A (p .part) (k .samples ++ R) (tapeSamples r) (plateSamples r) (q .lane-length) (long .plate)) in
-        let p₁ : putMid a (b - a) (putMid 0 (a - 0) l A) B ≡ (A ++ B) ++ (k .samples ++ R) =
-        rw (p₀, kb, ea) (put-at A (p .part) (k .samples ++ R) (tapeSamples r) (plateSamples r) (q .lane-length) (long .plate) B ∙ sym (append-assoc A B (k .samples ++ R))) in
-        let m₂ : midOf b (c - b) (putMid a (b - a) (putMid 0 (a - 0) l A) B) ≡ k .samples = rw (p₁, kc, eb) (mid-at (A ++ B) (k .samples) R (tapeSamples r + plateSamples r) (ceilingSamples r) AB (long .ceiling)) in
-        let p₂ : storeAfter a b c l A B C ≡ A ++ (B ++ (C ++ R)) =
-        rw (p₁, kc, eb) (put-at (A ++ B) (k .samples) R (tapeSamples r + plateSamples r) (ceilingSamples r) AB (long .ceiling) C ∙ append-assoc A B (C ++ R)) in
-        let v₁ : midOf 2048 (e - 2048) (putMid 0 2048 u U) ≡ k .counts = rw (w₀, ke) (mid-at U (k .counts) M 2048 (ceilingCounts r) (q .duck-length) (long .gains)) in
-        let w₁ : countsAfter e u U G ≡ U ++ (G ++ M) = rw (w₀, ke) (put-at U (k .counts) M 2048 (ceilingCounts r) (q .duck-length) (long .gains) G) in
-        -- what the stages give
-        let z₁ : ys ≡ outs tuning-step n t xs = (rw (m₀, v₀, lane-is, ← is-tape) at (q .lane-gave)) ∙ sym (tuned-outs (r .tape) (s .setup .tape) (s .daylight) (s .rain) (pointsAt s R M []) d n t xs some (rw (is-tape, ← lane-is) few)) in
-        let s₁ : tapeOn tape A U ≡ ran tuning-step n t xs = (rw (m₀, v₀, lane-is, ← is-tape) at (q .lane-ran)) ∙ sym (tuned-ran (r .tape) (s .setup .tape) (s .daylight) (s .rain) (pointsAt s R M []) d n t xs some (rw (is-tape, ← lane-is) few)) in
-        let s₂ : plateOn plate B ≡ ran mix n p (outs tuning-step n t xs) = rw (m₁, z₁, ← is-plate) at (q .mix-ran) in
-        let z₂ : framesIn ls rs ≡ outs mix n p (outs tuning-step n t xs) =
-        rw ((rw (m₁, z₁, ← is-plate) at (q .mix-left)), (rw (m₁, z₁, ← is-plate) at (q .mix-right))) (frames-maps (outs mix n p (outs tuning-step n t xs))) in
-        let s₃ : ceilingOn ceiling C G ≡ ran limit n k (outs mix n p (outs tuning-step n t xs)) = rw (m₂, v₁, z₂, ← is-ceiling) at (q .ceiling-ran) in
-        let h = chain-outs r s R M [] d n t p k long xs in
-        let f₃ : fs ≡ framesOut (outs (stepOn r d) n (whole s R M n t p k) xs) = (rw (m₂, v₁, z₂, ← is-ceiling) at (q .ceiling-frames)) ∙ ap framesOut (sym h) in
-        let g₃ : gs ≡ countsOut (outs (stepOn r d) n (whole s R M n t p k) xs) = (rw (m₂, v₁, z₂, ← is-ceiling) at (q .ceiling-gains)) ∙ ap countsOut (sym h) in
-        let end : state (record { position = n + length xs; setup = s .setup; points = s .points; daylight = s .daylight; rain = s .rain; tape = tape; plate = plate; ceiling = ceiling }) (storeAfter a b c l A B C) (countsAfter e u U G)
-        ≡ ran (stepOn r d) n (whole s R M n t p k) xs =
-        rw (p₂, w₁)
-        (ap (λ (x : TapeIn). whole s R M (n + length xs) x (plateOn plate B) (ceilingOn ceiling C G)) s₁
-        ∙ ap (λ (x : PlateIn). whole s R M (n + length xs) (ran tuning-step n t xs) x (ceilingOn ceiling C G)) s₂
-        ∙ ap (λ (x : CeilingIn). whole s R M (n + length xs) (ran tuning-step n t xs) (ran mix n p (outs tuning-step n t xs)) x) s₃
-        ∙ sym (chain-ran r s R M [] d n t p k long xs)) in
-        ap (λ (x : State). made x fs gs) end ∙ ap (λ (x : List Float). made (ran (stepOn r d) n (whole s R M n t p k) xs) x gs) f₃ ∙ ap (λ (x : List ℕ). made (ran (stepOn r d) n (whole s R M n t p k) xs) (framesOut (outs (stepOn r d) n (whole s R M n t p k) xs)) x) g₃
+    module _ (plate : Plate) (ls rs : List Float)
+        (mix-ran : plateOn plate B ≡ ran mix n (plateOn (b .plate) (midOf 0 (p - 0) samples)) ss)
+        (mix-left : ls ≡ map (λ (f : Frame). f .left) (outs mix n (plateOn (b .plate) (midOf 0 (p - 0) samples)) ss))
+        (mix-right : rs ≡ map (λ (f : Frame). f .right) (outs mix n (plateOn (b .plate) (midOf 0 (p - 0) samples)) ss)) where
+      lines : p - 0 ≡ plateSamples (r .plate)
+      lines = omega arith
 
-  module _ (l : List Float) (u : List ℕ) (room : valuesAt r ≤ length l) (rooms : positionsAt r ≤ length u) (piece : Piecewise r (state s l u) (length xs)) (lane-is : lane ≡ tunedOf r (state s l u)) (a b c e : ℕ) where
-    abbrev st : State
-    st = state s l u
+      mixed-are : framesIn ls rs ≡ mixed
+      mixed-are = rw ((rw lines at mix-left), (rw lines at mix-right)) (frames-maps mixed)
 
-    abbrev again : List Float → List ℕ → Type 0
-    again v w = Called r s lane d v w xs a b c e tape plate ceiling A B C U G ys ls rs fs gs → after a b c e v w ≡ allRan r d (state s v w) xs
+      pub bus-ended : (ceiling : Ceiling) (C : List Float) (G : List ℕ) → ceilingOn ceiling C G ≡ ran limit n lent (framesIn ls rs)
+          → busOn (record { plate = plate; ceiling = ceiling }) (putMid p (length half - p) half C) G ≡ ran (busStepOn r) n on ss
+      bus-ended ceiling C G ceiling-ran =
+          let s₁ : plateOn plate B ≡ ran mix n (plateIn r on) ss = rw lines at mix-ran in
+          let s₂ : ceilingOn ceiling C G ≡ ran limit n (ceilingIn r on) mixed = rw (ceiling-lent, mixed-are) at ceiling-ran in
+          rw (behind-put p samples B sized C)
+          (ap (λ (v : PlateIn). busOf v (ceilingOn ceiling C G)) s₁
+          ∙ ap (busOf (ran mix n (plateIn r on) ss)) s₂
+          ∙ sym (bus-ran r n (plateIn r on) (ceilingIn r on) plates ss)
+          ∙ ap (λ (v : BusIn). ran (busStepOn r) n v ss) (bus-whole r on))
 
-    pub staged : Called r s lane d l u xs a b c e tape plate ceiling A B C U G ys ls rs fs gs → after a b c e l u ≡ allRan r d (state s l u) xs
-    staged =
-        subst (λ (x : State). again (x .store) (x .counts)) (is-whole r st room rooms)
-        (staged-parts (tapeIn r st) (plateIn r st) (ceilingIn r st) (drop (valuesAt r) l) (drop (positionsAt r) u) refl refl refl (parts-long r st room rooms) (piece .some) (rw lane-is (piece .few)) lane-is a b c e)
+      pub bus-gave : outs limit n lent (framesIn ls rs) ≡ outs (busStepOn r) n on ss
+      bus-gave =
+          rw (ceiling-lent, mixed-are)
+          (sym (bus-outs r n (plateIn r on) (ceilingIn r on) plates ss) ∙ ap (λ (v : BusIn). outs (busStepOn r) n v ss) (bus-whole r on))
+
+-- ---- the strip, whose lane is lent the parts from b to e and from c to f, and the bus those before them
+
+made : State → List Float → List ℕ → RanAll
+made st frames gains = record { end = st; frames = frames; gains = gains }
+
+module _ (r : Rate) (u : RateUsable r) (s : Strip) (store : List Float) (counts : List ℕ) (runs : Runs r (state s store counts)) where
+  abbrev st : State
+  st = state s store counts
+
+  parts : Long r (laneIn r st) (busIn r st)
+  parts = parts-long r u st (runs .sized)
+
+  module _ (b e c f : ℕ) (at : b ≡ busSamples r) (end : e ≡ b + laneSamples r) (ats : c ≡ busCounts r) (ends : f ≡ c + laneCounts) where
+    pub lane-of-lent : laneOn (s .lane) (midOf b (e - b) store) (midOf c (f - c) counts) ≡ laneIn r st
+    lane-of-lent = lane-lent r u store counts (runs .sized) b e c f at end ats ends (s .lane)
+
+    pub bus-of-lent : (L : List Float) (U : List ℕ) → busOn (s .bus) (midOf 0 (b - 0) (putMid b (e - b) store L)) (midOf 0 (c - 0) (putMid c (f - c) counts U)) ≡ busIn r st
+    bus-of-lent L U = bus-lent r u store counts (runs .sized) b e c f at end ats ends L U (s .bus)
+
+    abbrev m : ℕ
+    m = s .position
+
+    abbrev bus : Stage BusIn Sent Heard
+    bus = busStepOn r
+
+    module _ (d : Bool) (xs : List Float) (L : List Float) (U : List ℕ) (l : Lane) (v : Bus) (B : List Float) (G : List ℕ) (ss : List Sent) (fs : List Float) (gs : List ℕ)
+        (lane-ran : laneOn l L U ≡ ran (laneStepOn r d) m (laneOn (s .lane) (midOf b (e - b) store) (midOf c (f - c) counts)) xs)
+        (lane-gave : ss ≡ outs (laneStepOn r d) m (laneOn (s .lane) (midOf b (e - b) store) (midOf c (f - c) counts)) xs)
+        (bus-ran : busOn v B G ≡ ran bus m (busOn (s .bus) (midOf 0 (b - 0) (putMid b (e - b) store L)) (midOf 0 (c - 0) (putMid c (f - c) counts U))) ss)
+        (bus-frames : fs ≡ framesOut (outs bus m (busOn (s .bus) (midOf 0 (b - 0) (putMid b (e - b) store L)) (midOf 0 (c - 0) (putMid c (f - c) counts U))) ss))
+        (bus-gains : gs ≡ countsOut (outs bus m (busOn (s .bus) (midOf 0 (b - 0) (putMid b (e - b) store L)) (midOf 0 (c - 0) (putMid c (f - c) counts U))) ss)) where
+      abbrev lane : Stage LaneIn Float Sent
+      lane = laneStepOn r d
+
+      abbrev sent : List Sent
+      sent = outs lane m (laneIn r st) xs
+
+      pub block-ended : ranAll (record { position = m + length xs; lane = l; bus = v }) (putMid 0 (b - 0) (putMid b (e - b) store L) B) (putMid 0 (c - 0) (putMid c (f - c) counts U) G) fs gs
+          ≡ allRan r d st xs
+      unfolding made
+      block-ended =
+          let q : ss ≡ sent = rw lane-of-lent at lane-gave in
+          let k₁ : laneOn l L U ≡ ran lane m (laneIn r st) xs = rw lane-of-lent at lane-ran in
+          let k₂ : busOn v B G ≡ ran bus m (busIn r st) sent = rw (bus-of-lent L U, q) at bus-ran in
+          let w = is-whole r st in
+          let ended : stateOf (m + length xs) (laneOn l L U) (busOn v B G) (samplesBehind r store) (countsBehind r counts) ≡ ran (stepOn r d) m st xs =
+          ap (λ (x : LaneIn). stateOf (m + length xs) x (busOn v B G) (samplesBehind r store) (countsBehind r counts)) k₁
+          ∙ ap (λ (x : BusIn). stateOf (m + length xs) (ran lane m (laneIn r st) xs) x (samplesBehind r store) (countsBehind r counts)) k₂
+          ∙ sym (chain-ran r (samplesBehind r store) (countsBehind r counts) d m (laneIn r st) (busIn r st) parts xs)
+          ∙ ap (λ (x : State). ran (stepOn r d) m x xs) w in
+          let heard : outs bus m (busIn r st) sent ≡ outs (stepOn r d) m st xs =
+          sym (chain-outs r (samplesBehind r store) (countsBehind r counts) d m (laneIn r st) (busIn r st) parts xs) ∙ ap (λ (x : State). outs (stepOn r d) m x xs) w in
+          let g₁ : fs ≡ framesOut (outs (stepOn r d) m st xs) = (rw (bus-of-lent L U, q) at bus-frames) ∙ ap framesOut heard in
+          let g₂ : gs ≡ countsOut (outs (stepOn r d) m st xs) = (rw (bus-of-lent L U, q) at bus-gains) ∙ ap countsOut heard in
+          ap (λ (x : State). made x fs gs) (both-back r u store counts (runs .sized) b e c f at end ats ends L U (m + length xs) l v B G)
+          ∙ ap (λ (x : State). made x fs gs) ended
+          ∙ ap (λ (x : List Float). made (ran (stepOn r d) m st xs) x gs) g₁
+          ∙ ap (made (ran (stepOn r d) m st xs) (framesOut (outs (stepOn r d) m st xs))) g₂

@@ -1,28 +1,58 @@
-// A run: blocks of samples through the lane, the plate and the ceiling to frames, each stage on its own parts of the stores.
-// Uses the stages, rate for the places of their parts, and strip for its types and definitions.
+// A run: blocks of samples through the lane and the bus to frames, each on its own parts of the stores.
+// Uses the stages, rate for the lengths of their parts, and strip for its types and definitions.
 ghost use mathlib.Core.Path.{_≡_};
 ghost use mathlib.Core.List.{map};
 ghost use Prim.Native.Nat.{_+_, _-_, _*_, _<_, _≤_, min};
 ghost use lib.ListN.{length};
 ghost use Rattle.casts.specs.Arithmetic.{_⊗_};
+ghost use Rattle.ranges.specs.Ranges.{lastPosition};
 ghost use Rattle.stage.specs.Stage.{ran, outs};
 ghost use Rattle.stream.specs.declared.Frame.{Frame};
 ghost use Rattle.rate.specs.Rate.{rateOf, RateUsable};
 ghost use Rattle.rate.specs.Plate.{PlateUsable};
-ghost use Rattle.plate.specs.Plate.{plateOn, partOf};
-ghost use Rattle.strip.specs.Calls.{state, mixedStepOn};
-ghost use Rattle.blocks.specs.Run.{added, Runs, Piecewise, Outputs, tunedOf, ranAll, allRan};
+ghost use Rattle.rate.specs.Stores.{plateSamples};
+ghost use Rattle.plate.specs.Plate.{plateOn};
+ghost use Rattle.master.specs.Kept.{framesOut, countsOut};
+ghost use Rattle.strip.specs.Kept.{laneOn, laneStepOn, busOn, mixedStepOn, busStepOn, laneIn, state};
+ghost use Rattle.blocks.specs.Run.{sentsIn, added, LaneRuns, BusRuns, Runs, tunedOf, Piecewise, Outputs, ranAll, allRan};
 use plate::Plate;
 use rate::PlateRate;
 use rate::Rate;
 use rate::places;
+use strip::Bus;
+use strip::Lane;
 use strip::Strip;
 use tape::Tape;
 
 // The samples of a block at most.
 const BLOCK: usize = 32;
 
-// ---- the plate, with what it is mixed with
+// ---- the lane
+
+// The lane's tape tuned for the sample n.
+pub fn lane_tuned(rate: Rate, lane: Lane, samples: &[f64], counts: &[u64], n: u64) -> Tape
+    requires { ⌜ LaneRuns rate (laneOn lane (now samples) (now counts)) ⌝ }
+    requires { ⌜ n < lastPosition ⌝ }
+    ensures { λ r. ⌜ r ≡ tunedOf rate n (laneOn lane (now (samples .entry)) (now (counts .entry))) ⌝ }
+{
+    let warp = places::warp_samples(rate);
+    let values_end = warp + lane.points;
+    let positions_end = duck::COUNTS + lane.points;
+    let setup = lane.setup;
+    let tape = setup.tape;
+    let tone = tape.tone;
+    let daylight = lane.daylight;
+    let kept = lane.tape;
+    tape::tuned(
+        rate.tape,
+        tone,
+        daylight,
+        &counts[duck::COUNTS..positions_end],
+        &samples[warp..values_end],
+        kept,
+        n,
+    )
+}
 
 // The lane's samples at the send level.
 fn send(dry: &[f64], sent: &mut [f64], level: f64)
@@ -36,6 +66,53 @@ fn send(dry: &[f64], sent: &mut [f64], level: f64)
     }
 }
 
+// A block of at most as many samples as have one tuning. The samples lie in dry, and so does then what is heard dry.
+pub fn lane_block(
+    rate: Rate,
+    lane: Lane,
+    tape: Tape,
+    drums: bool,
+    samples: &mut [f64],
+    counts: &mut [u64],
+    dry: &mut [f64],
+    sent: &mut [f64],
+    n: u64,
+) -> Lane
+    requires { ⌜ RateUsable rate ⌝ }
+    requires { ⌜ LaneRuns rate (laneOn lane (now samples) (now counts)) ⌝ }
+    requires { ⌜ tape ≡ tunedOf rate n (laneOn lane (now samples) (now counts)) ⌝ }
+    requires { ⌜ Piecewise (tape .until) n (length (now dry)) ⌝ }
+    requires { ⌜ length (now sent) ≡ length (now dry) ⌝ }
+    ensures { λ r. ⌜ laneOn r (now (samples .exit)) (now (counts .exit)) ≡ ran (laneStepOn rate drums) n (laneOn lane (now (samples .entry)) (now (counts .entry))) (now (dry .entry)) ⌝ }
+    ensures { λ _. ⌜ sentsIn (now (dry .exit)) (now (sent .exit)) ≡ outs (laneStepOn rate drums) n (laneOn lane (now (samples .entry)) (now (counts .entry))) (now (dry .entry)) ⌝ }
+{
+    let warp = places::warp_samples(rate);
+    let setup = lane.setup;
+    let daylight = lane.daylight;
+    let rain = lane.rain;
+    let tape = tape::tape_block(
+        rate.tape,
+        setup.tape,
+        rain,
+        tape,
+        &mut samples[0..warp],
+        &mut counts[0..duck::COUNTS],
+        dry,
+        n,
+        drums,
+    );
+    send(dry, sent, setup.send);
+    Lane {
+        setup,
+        points: lane.points,
+        daylight,
+        rain,
+        tape,
+    }
+}
+
+// ---- the bus
+
 // The lane's samples in front of a side of the plate's.
 fn add(dry: &[f64], side: &mut [f64])
     requires { ⌜ length (now side) ≡ length (now dry) ⌝ }
@@ -48,9 +125,9 @@ fn add(dry: &[f64], side: &mut [f64])
     }
 }
 
+// The plate, and what is heard dry added. What is sent lies in left.
 fn mix(
     rate: PlateRate,
-    level: f64,
     plate: Plate,
     part: &mut [f64],
     dry: &[f64],
@@ -59,23 +136,67 @@ fn mix(
     n: u64,
 ) -> Plate
     requires { ⌜ PlateUsable rate ⌝ }
-    requires { ⌜ (length (now part) ≡ partOf rate) × (n + length (now dry) ≤ 4294967296) ⌝ }
+    requires { ⌜ (length (now part) ≡ plateSamples rate) × (n + length (now dry) ≤ lastPosition) ⌝ }
     requires { ⌜ (length (now left) ≡ length (now dry)) × (length (now right) ≡ length (now dry)) ⌝ }
-    ensures { λ r. ⌜ plateOn r (now (part .exit)) ≡ ran (mixedStepOn rate level) n (plateOn plate (now (part .entry))) (now (dry .entry)) ⌝ }
-    ensures { λ _. ⌜ now (left .exit) ≡ map (λ (f : Frame). f .left) (outs (mixedStepOn rate level) n (plateOn plate (now (part .entry))) (now (dry .entry))) ⌝ }
-    ensures { λ _. ⌜ now (right .exit) ≡ map (λ (f : Frame). f .right) (outs (mixedStepOn rate level) n (plateOn plate (now (part .entry))) (now (dry .entry))) ⌝ }
+    ensures { λ r. ⌜ plateOn r (now (part .exit)) ≡ ran (mixedStepOn rate) n (plateOn plate (now (part .entry))) (sentsIn (now (dry .entry)) (now (left .entry))) ⌝ }
+    ensures { λ _. ⌜ now (left .exit) ≡ map (λ (f : Frame). f .left) (outs (mixedStepOn rate) n (plateOn plate (now (part .entry))) (sentsIn (now (dry .entry)) (now (left .entry)))) ⌝ }
+    ensures { λ _. ⌜ now (right .exit) ≡ map (λ (f : Frame). f .right) (outs (mixedStepOn rate) n (plateOn plate (now (part .entry))) (sentsIn (now (dry .entry)) (now (left .entry)))) ⌝ }
 {
-    send(dry, left, level);
     let next = plate::block(rate, plate, part, left, right, n);
     add(dry, left);
     add(dry, right);
     next
 }
 
-// ---- a block of at most as many samples as have one tuning
+// A block through the plate and the ceiling to frames. What is sent lies in left; left and right are room for the two sides.
+pub fn bus_block(
+    rate: Rate,
+    bus: Bus,
+    samples: &mut [f64],
+    counts: &mut [u64],
+    dry: &[f64],
+    left: &mut [f64],
+    right: &mut [f64],
+    frames: &mut [f32],
+    gains: &mut [u64],
+    n: u64,
+) -> Bus
+    requires { ⌜ RateUsable rate ⌝ }
+    requires { ⌜ BusRuns rate (busOn bus (now samples) (now counts)) ⌝ }
+    requires { ⌜ n + length (now dry) ≤ lastPosition ⌝ }
+    requires { ⌜ Outputs (length (now dry)) (length (now left)) (length (now right)) (length (now frames)) (length (now gains)) ⌝ }
+    ensures { λ r. ⌜ busOn r (now (samples .exit)) (now (counts .exit)) ≡ ran (busStepOn rate) n (busOn bus (now (samples .entry)) (now (counts .entry))) (sentsIn (now (dry .entry)) (now (left .entry))) ⌝ }
+    ensures { λ _. ⌜ now (frames .exit) ≡ framesOut (outs (busStepOn rate) n (busOn bus (now (samples .entry)) (now (counts .entry))) (sentsIn (now (dry .entry)) (now (left .entry)))) ⌝ }
+    ensures { λ _. ⌜ now (gains .exit) ≡ countsOut (outs (busStepOn rate) n (busOn bus (now (samples .entry)) (now (counts .entry))) (sentsIn (now (dry .entry)) (now (left .entry)))) ⌝ }
+{
+    let at = places::plate_samples(rate);
+    let plate = mix(
+        rate.plate,
+        bus.plate,
+        &mut samples[0..at],
+        dry,
+        left,
+        right,
+        n,
+    );
+    let ceiling = master::block(
+        rate.ceiling,
+        bus.ceiling,
+        &mut samples[at..],
+        counts,
+        n,
+        left,
+        right,
+        frames,
+        gains,
+    );
+    Bus { plate, ceiling }
+}
 
-// Stage by stage, each on its own parts of the stores. The samples lie in dry, and left and right are room for the two sides.
-fn stages(
+// ---- a run's samples, piece by piece
+
+// The lane and then the bus, each on its own parts of the stores.
+fn block(
     rate: Rate,
     strip: Strip,
     tape: Tape,
@@ -90,61 +211,44 @@ fn stages(
 ) -> Strip
     requires { ⌜ RateUsable rate ⌝ }
     requires { ⌜ Runs rate (state strip (now store) (now counts)) ⌝ }
-    requires { ⌜ tape ≡ tunedOf rate (state strip (now store) (now counts)) ⌝ }
-    requires { ⌜ Piecewise rate (state strip (now store) (now counts)) (length (now dry)) ⌝ }
+    requires { ⌜ tape ≡ tunedOf rate (strip .position) (laneIn rate (state strip (now store) (now counts))) ⌝ }
+    requires { ⌜ Piecewise (tape .until) (strip .position) (length (now dry)) ⌝ }
     requires { ⌜ Outputs (length (now dry)) (length (now left)) (length (now right)) (length (now frames)) (length (now gains)) ⌝ }
     ensures { λ r. ⌜ ranAll r (now (store .exit)) (now (counts .exit)) (now (frames .exit)) (now (gains .exit)) ≡ allRan rate drums (state strip (now (store .entry)) (now (counts .entry))) (now (dry .entry)) ⌝ }
 {
     let n = strip.position;
     let k = dry.len() as u64;
-    let setup = strip.setup;
-    let rain = strip.rain;
-    let plate_at = places::plate_at(rate);
-    let ceiling_at = places::ceiling_at(rate);
-    let values_at = places::values_at(rate);
-    let positions_at = places::positions_at(rate);
-    let tape = tape::tape_block(
-        rate.tape,
-        setup.tape,
-        rain,
+    let lane_at = places::bus_samples(rate);
+    let lane_end = lane_at + places::lane_samples(rate);
+    let counts_at = places::bus_counts(rate);
+    let counts_end = counts_at + places::LANE_COUNTS;
+    let lane = lane_block(
+        rate,
+        strip.lane,
         tape,
-        &mut store[0..plate_at],
-        &mut counts[0..places::DUCK],
-        dry,
-        n,
         drums,
-    );
-    let plate = mix(
-        rate.plate,
-        setup.send,
-        strip.plate,
-        &mut store[plate_at..ceiling_at],
+        &mut store[lane_at..lane_end],
+        &mut counts[counts_at..counts_end],
         dry,
         left,
-        right,
         n,
     );
-    let ceiling = master::block(
-        rate.ceiling,
-        strip.ceiling,
-        &mut store[ceiling_at..values_at],
-        &mut counts[places::DUCK..positions_at],
-        n,
+    let bus = bus_block(
+        rate,
+        strip.bus,
+        &mut store[0..lane_at],
+        &mut counts[0..counts_at],
+        dry,
         left,
         right,
         frames,
         gains,
+        n,
     );
-    let daylight = strip.daylight;
     Strip {
         position: n + k,
-        setup,
-        points: strip.points,
-        daylight,
-        rain,
-        tape,
-        plate,
-        ceiling,
+        lane,
+        bus,
     }
 }
 
@@ -159,32 +263,22 @@ fn copy(samples: &[f64], block: &mut [f64])
     }
 }
 
-// ---- a run's samples, piece by piece
-
-// The lane tuned for the next sample.
+// The tape tuned for the next sample.
 fn tuned(rate: Rate, strip: Strip, store: &[f64], counts: &[u64]) -> Tape
     requires { ⌜ RateUsable rate ⌝ }
     requires { ⌜ Runs rate (state strip (now store) (now counts)) ⌝ }
-    requires { ⌜ strip .position < 4294967296 ⌝ }
-    ensures { λ r. ⌜ r ≡ tunedOf rate (state strip (now (store .entry)) (now (counts .entry))) ⌝ }
+    requires { ⌜ strip .position < lastPosition ⌝ }
+    ensures { λ r. ⌜ r ≡ tunedOf rate (strip .position) (laneIn rate (state strip (now (store .entry)) (now (counts .entry)))) ⌝ }
 {
-    let values_at = places::values_at(rate);
-    let positions_at = places::positions_at(rate);
-    let points = strip.points;
-    let values_end = values_at + points;
-    let positions_end = positions_at + points;
-    let setup = strip.setup;
-    let lane = setup.tape;
-    let tone = lane.tone;
-    let daylight = strip.daylight;
-    let tape = strip.tape;
-    tape::tuned(
-        rate.tape,
-        tone,
-        daylight,
-        &counts[positions_at..positions_end],
-        &store[values_at..values_end],
-        tape,
+    let lane_at = places::bus_samples(rate);
+    let lane_end = lane_at + places::lane_samples(rate);
+    let counts_at = places::bus_counts(rate);
+    let counts_end = counts_at + places::LANE_COUNTS;
+    lane_tuned(
+        rate,
+        strip.lane,
+        &store[lane_at..lane_end],
+        &counts[counts_at..counts_end],
         strip.position,
     )
 }
@@ -217,7 +311,7 @@ pub fn go(
     counts: &mut [u64],
 ) -> Strip
     requires { ⌜ Runs (rateOf 44100) (state strip (now store) (now counts)) ⌝ }
-    requires { ⌜ strip .position + length (now samples) ≤ 4294967296 ⌝ }
+    requires { ⌜ strip .position + length (now samples) ≤ lastPosition ⌝ }
     requires { ⌜ (length (now frames) ≡ 2 * length (now samples)) × (length (now gains) ≡ length (now samples)) ⌝ }
     ensures { λ r. ⌜ ranAll r (now (store .exit)) (now (counts .exit)) (now (frames .exit)) (now (gains .exit)) ≡ allRan (rateOf 44100) drums (state strip (now (store .entry)) (now (counts .entry))) (now (samples .entry)) ⌝ }
 {
@@ -234,7 +328,7 @@ pub fn go(
         let from = 2 * i;
         let to = 2 * e;
         copy(&samples[i..e], &mut dry[0..k]);
-        strip = stages(
+        strip = block(
             rate,
             strip,
             tape,

@@ -1,25 +1,27 @@
--- What is lent of the stores, and what they hold when it is back. Assumes nothing.
-use mathlib.Core.Path.{_≡_, refl, sym, ap, _∙_}
+-- What is lent of a part, and what the part holds when it is back. Assumes nothing.
+use mathlib.Core.Path.{_≡_, refl, ap, _∙_}
 use Prim.Native.Nat.{ℕ, zero, suc, _+_, _-_, _≤_, _<_}
-use native.Mathlib.Nat.{not-suc-le-zero, le-of-suc-le-suc}
+use native.Mathlib.Nat.{not-suc-le-zero, le-of-suc-le-suc, sub-zero}
 use native.Mathlib.Omega.{arith}
 use native.Mathlib.Numerals.{add-one}
-use mathlib.Core.List.{List, [], _∷_, _++_, append-assoc, append-nil}
-use lib.ListN.{length, take, drop, set, getD, replicate, length-append, length-drop, length-replicate, take-append-drop, drop-of-length-le}
-use lib.Seq.{take-at, drop-at, drop-drop, drop-cons, take-length, take-suc, append-snoc, set-at, length-take-le}
+use mathlib.Core.List.{List, [], _∷_, _++_, append-nil}
+use lib.ListN.{length, take, drop, set, replicate, drop-of-length-le}
+use lib.Seq.{length-take-le}
 use lib.Ieee.{Float}
-use borrow.Rule.Slice.PartMut.{midOf, putMid, post-is}
-use Rattle.casts.specs.Arithmetic.{nought}
+use borrow.Rule.Slice.PartMut.{midOf, putMid}
+use Rattle.stage.specs.Stage.{over}
+use Rattle.stage.proofs.Parts.{behind-lent, behind-put}
 use Rattle.rate.specs.declared.Rate.{Rate}
-use Rattle.rate.specs.Rate.{tapeSamples, plateSamples, ceilingSamples, valuesAt, tapeCounts, ceilingCounts, positionsAt}
-use Rattle.duck.specs.declared.Duck.{Duck}
-use Rattle.duck.specs.Cursors.{DuckIn, duckOn, laid}
-use Rattle.duck.proofs.Loops.{laid-length}
-use Rattle.master.specs.declared.Ceiling.{Ceiling}
-use Rattle.master.specs.Kept.{CeilingIn, ceilingOn, ceilingFresh}
-use Rattle.opening.specs.Pieces.{over, silenced, listed, ceiled, ceiledFresh}
+use Rattle.rate.specs.Rate.{RateUsable, Sized}
+use Rattle.rate.specs.Stores.{busSamples, busCounts, laneSamples, laneCounts}
+use Rattle.tape.specs.Tape.{Lists}
+use Rattle.strip.specs.declared.Setup.{Setup}
+use Rattle.strip.specs.declared.Lane.{Lane}
+use Rattle.strip.specs.declared.Bus.{Bus}
+use Rattle.strip.specs.Kept.{LaneIn, laneOn, BusIn, busOn, state, samplesBehind, countsBehind, stateOf, openedLane, openedBus, openedState}
+use Rattle.strip.proofs.Parts.{lane-lent, bus-lent, both-back}
 
--- ---- a part filled from the front: with one value, and with a list
+-- ---- a part filled from the front with one value
 module _ {X : Type 0} where
   fill-suc : (n : ℕ) (v : X) (d : List X) → n < length d → set (replicate n v ++ drop n d) n v ≡ replicate (suc n) v ++ drop (suc n) d
   fill-suc n v [] l = absurd (not-suc-le-zero l)
@@ -32,89 +34,24 @@ module _ {X : Type 0} where
   pub fill-done : (n : ℕ) (v : X) (d : List X) → n ≤ length d → length d ≤ n → replicate n v ++ drop n d ≡ replicate (length d) v
   fill-done n v d h k = let e : n ≡ length d = omega arith in rw (drop-of-length-le d k) (append-nil (replicate n v) ∙ rw e)
 
-  pub lay-more : (ks u : List X) (j : ℕ) (x : X) → j < length ks → j < length u → set (take j ks ++ drop j u) j (getD ks j x) ≡ take (j + 1) ks ++ drop (j + 1) u
-  lay-more ks u j x h k =
-      ap (λ (l : List X). set (take j ks ++ l) j (getD ks j x)) (drop-cons u j x k)
-      ∙ set-at (take j ks) (getD u j x) (drop (suc j) u) (getD ks j x) j (length-take-le j ks (omega arith))
-      ∙ rw (add-one j, take-suc ks j x h, append-snoc)
+  pub filled-to : (w : ℕ) (v : X) (l Z : List X) → w ≤ length l → Z ≡ replicate (length (take (w - 0) l)) v → Z ≡ replicate w v
+  filled-to w v l Z h e = e ∙ rw (sub-zero, length-take-le w l h)
 
-  pub lay-done : (ks u : List X) (j : ℕ) → j ≤ length ks → length ks ≤ j → take j ks ++ drop j u ≡ over ks u
-  lay-done ks u j h k = let e : j ≡ length ks = omega arith in rw (e, take-length ks)
+-- ---- the first w places, back as Z, and a list laid behind them, back as W
+pub laid-behind : {X : Type 0} (w : ℕ) (l Z : List X) → length Z ≡ w → (L W : List X) → W ≡ over L (midOf w (length (Z ++ drop (w - 0) l) - w) (Z ++ drop (w - 0) l))
+    → putMid w (length (Z ++ drop (w - 0) l) - w) (Z ++ drop (w - 0) l) W ≡ Z ++ over L (drop w l)
+laid-behind {X} w l Z z L W e = behind-put w l Z z W ∙ ap (λ (t : List X). Z ++ t) (e ∙ ap (over L) (behind-lent w l Z z))
 
--- ---- the first a elements replaced, and then those from b on, c being between
-module _ {X : Type 0} (a c b k : ℕ) (l Z : List X) (room : b ≤ length l) (eb : b ≡ a + c) (z : length Z ≡ a) (ek : k ≡ length l - b) where
-  abbrev between : List X
-  between = take c (drop a l)
-
-  rest-apart : drop a l ≡ between ++ drop b l
-  rest-apart = sym (ap (λ (t : List X). between ++ t) (ap (λ (n : ℕ). drop n l) eb ∙ sym (drop-drop c a l)) ∙ take-append-drop c (drop a l))
-
-  front-length : length (Z ++ between) ≡ b
-  front-length = let e : length between ≡ c = length-take-le c (drop a l) (rw length-drop (omega arith)) in length-append Z between ∙ omega arith
-
-  all-apart : Z ++ drop a l ≡ (Z ++ between) ++ drop b l
-  all-apart = ap (λ (t : List X). Z ++ t) rest-apart ∙ sym (append-assoc Z between (drop b l))
-
-  back-length : length (drop b l) ≡ k
-  back-length = length-drop b l ∙ sym ek
-
-  back-is : drop b (Z ++ drop a l) ≡ drop b l
-  back-is = rw all-apart (drop-at (Z ++ between) (drop b l) b front-length)
-
-  pub back-of : take k (drop b (Z ++ drop a l)) ≡ drop b l
-  back-of = rw back-is (ap (λ (n : ℕ). take n (drop b l)) (sym back-length) ∙ take-length (drop b l))
-
-  pub back-put : (W : List X) → take b (Z ++ drop a l) ++ (W ++ drop k (drop b (Z ++ drop a l))) ≡ Z ++ (between ++ W)
-  back-put W =
-      let e : take b (Z ++ drop a l) ≡ Z ++ between = rw all-apart (take-at (Z ++ between) (drop b l) b front-length) in
-      let h : length (drop b l) ≤ k = rw back-length (omega arith) in
-      let f : drop k (drop b (Z ++ drop a l)) ≡ [] = rw back-is (drop-of-length-le (drop b l) h) in
-      rw (e, f, append-nil W, append-assoc)
-
--- the same, what comes last being a list laid at the front of what was there
-pub front-back : {X : Type 0} (a c b k : ℕ) (l Z L W : List X) → b ≤ length l → b ≡ a + c → length Z ≡ a → k ≡ length (Z ++ drop a l) - b → W ≡ over L (take k (drop b (Z ++ drop a l)))
-    → take b (Z ++ drop a l) ++ (W ++ drop k (drop b (Z ++ drop a l))) ≡ Z ++ (take c (drop a l) ++ over L (drop b l))
-front-back {X} a c b k l Z L W room eb z ek e =
-    let n : length (Z ++ drop a l) ≡ length l = length-append Z (drop a l) ∙ ap (λ (m : ℕ). length Z + m) (length-drop a l) ∙ omega arith in
-    let h : k ≡ length l - b = ek ∙ ap (λ (m : ℕ). m - b) n in
-    back-put a c b k l Z room eb z h W
-    ∙ ap (λ (t : List X). Z ++ (take c (drop a l) ++ t)) (e ∙ ap (over L) (back-of a c b k l Z room eb z h))
-
--- ---- what open lays: a, v and p are where the code finds the ceiling's part and the lists
-module _ (r : Rate) where
-  abbrev ceilingAt : ℕ
-  ceilingAt = tapeSamples r + plateSamples r
-
-  pub samples-laid : (values l Z W : List Float) (a v k : ℕ) → a ≡ ceilingAt → v ≡ valuesAt r → valuesAt r ≤ length l → Z ≡ replicate (length (take a l)) nought → k ≡ length (Z ++ drop a l) - v
-      → W ≡ over values (take k (drop v (Z ++ drop a l))) → take v (Z ++ drop a l) ++ (W ++ drop k (drop v (Z ++ drop a l))) ≡ silenced r values l
-  unfolding silenced
-  samples-laid values l Z W a v k ea ev room ez ek ew =
-      let n : length (take a l) ≡ a = length-take-le a l (omega arith) in
-      let q : Z ≡ replicate ceilingAt nought = ez ∙ ap (λ (m : ℕ). replicate m nought) (n ∙ ea) in
-      let z : length Z ≡ a = ap length ez ∙ length-replicate (length (take a l)) nought ∙ n in
-      front-back a (ceilingSamples r) v k l Z values W (omega arith) (omega arith) z ek ew
-      ∙ rw (q, ea, ev)
-
-  pub counts-laid : (positions kicks u Z W : List ℕ) (d : Duck) (p k : ℕ) → p ≡ positionsAt r → positionsAt r ≤ length u → length kicks ≤ 1024 → duckOn d Z ≡ laid kicks (take tapeCounts u)
-      → k ≡ length (Z ++ drop tapeCounts u) - p → W ≡ over positions (take k (drop p (Z ++ drop tapeCounts u)))
-      → take p (Z ++ drop tapeCounts u) ++ (W ++ drop k (drop p (Z ++ drop tapeCounts u))) ≡ listed r positions kicks u
-  unfolding listed
-  counts-laid positions kicks u Z W d p k ep room few ez ek ew =
-      let q : Z ≡ laid kicks (take tapeCounts u) .part = ap (λ (s : DuckIn). s .part) ez in
-      let n : length (take tapeCounts u) ≡ tapeCounts = length-take-le tapeCounts u (omega arith) in
-      let z : length Z ≡ tapeCounts = ap length q ∙ laid-length kicks (take tapeCounts u) few (omega arith) ∙ n in
-      front-back tapeCounts (ceilingCounts r) p k u Z positions W (omega arith) ep z ek ew
-      ∙ rw (q, ep)
-
-  pub ceiling-laid : (c : Ceiling) (l S : List Float) (u C : List ℕ) (a v p : ℕ) → a ≡ ceilingAt → v ≡ valuesAt r → p ≡ positionsAt r
-      → ceilingOn c S C ≡ ceilingFresh (r .ceiling) (midOf a (v - a) l) (midOf tapeCounts (p - tapeCounts) u)
-      → ceiled c (putMid a (v - a) l S) (putMid tapeCounts (p - tapeCounts) u C) ≡ ceiledFresh r l u
-  unfolding ceiledFresh
-  ceiling-laid c l S u C a v p ea ev ep e =
-      let m : v - a ≡ ceilingSamples r = omega arith in
-      let n : p - tapeCounts ≡ ceilingCounts r = omega arith in
-      let x : drop (v - a) (drop a l) ≡ drop (valuesAt r) l = post-is a v l (omega arith) ∙ ap (λ (k : ℕ). drop k l) ev in
-      let y : drop (p - tapeCounts) (drop tapeCounts u) ≡ drop (positionsAt r) u = post-is tapeCounts p u (omega arith) ∙ ap (λ (k : ℕ). drop k u) ep in
-      rw (x, y)
-      (ap (λ (k : CeilingIn). ceiled (k .ceiling) (take a l ++ (k .samples ++ drop (valuesAt r) l)) (take tapeCounts u ++ (k .counts ++ drop (positionsAt r) u))) e
-      ∙ rw (m, n, ea))
+-- ---- the lane and the bus that open leaves, put together
+module _ (r : Rate) (u : RateUsable r) (s : Setup) (ls : Lists) (store : List Float) (counts : List ℕ) (z : Sized r store counts)
+    (b e c f : ℕ) (at : b ≡ busSamples r) (end : e ≡ b + laneSamples r) (ats : c ≡ busCounts r) (ends : f ≡ c + laneCounts) (L : List Float) (U : List ℕ) where
+  pub opened-whole : (k : Lane) (v : Bus) (B : List Float) (G : List ℕ)
+      → laneOn k L U ≡ openedLane r s ls (midOf b (e - b) store) (midOf c (f - c) counts)
+      → busOn v B G ≡ openedBus r (midOf 0 (b - 0) (putMid b (e - b) store L)) (midOf 0 (c - 0) (putMid c (f - c) counts U))
+      → state (record { position = 0; lane = k; bus = v }) (putMid 0 (b - 0) (putMid b (e - b) store L) B) (putMid 0 (c - 0) (putMid c (f - c) counts U) G) ≡ openedState r s ls store counts
+  unfolding openedState
+  opened-whole k v B G el ev =
+      both-back r u store counts z b e c f at end ats ends L U 0 k v B G
+      ∙ ap (λ (x : LaneIn). stateOf 0 x (busOn v B G) (samplesBehind r store) (countsBehind r counts)) (el ∙ ap (λ (x : LaneIn). openedLane r s ls (x .samples) (x .counts)) (lane-lent r u store counts z b e c f at end ats ends k))
+      ∙ ap (λ (x : BusIn). stateOf 0 (openedLane r s ls (take (laneSamples r) (drop (busSamples r) store)) (take laneCounts (drop (busCounts r) counts))) x (samplesBehind r store) (countsBehind r counts))
+      (ev ∙ ap (λ (x : BusIn). openedBus r (x .samples) (x .counts)) (bus-lent r u store counts z b e c f at end ats ends L U v))

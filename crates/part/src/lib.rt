@@ -1,11 +1,16 @@
 // The four calls: open, run, latch, rest. Uses refusals for the checks, opening and blocks for the work, and the stages; strip has the types and the definitions that the contracts cite.
 ghost use mathlib.Core.Path.{_≡_};
+ghost use lib.ListN.{length};
 ghost use Rattle.rate.specs.Rate.{rateOf, RateUsable, Sized};
-ghost use Rattle.strip.specs.Calls.{state, openCall, runCall, latchedStrip, latchCall, restingOn, restCall};
-ghost use Rattle.refusals.specs.Pieces.{listsOf};
+ghost use Rattle.rate.specs.Stores.{busSamples, laneSamples};
+ghost use Rattle.strip.specs.Kept.{listsOf, state, laneLatchedOn, latchedStrip, laneRestingOn, busRestingOn, restingOn};
+ghost use Rattle.strip.specs.Calls.{openCall, runCall, latchCall, restCall};
 ghost use Rattle.part.specs.Pieces.{opened, went};
 use rate::Rate;
+use rate::places;
+use strip::Bus;
 use strip::Controls;
+use strip::Lane;
 use strip::Opened;
 use strip::Outcome;
 use strip::Rested;
@@ -29,10 +34,7 @@ pub fn open(
     if number != 0 {
         return Opened::Refused(number);
     }
-    opening::lay_samples(rate, values, store);
-    opening::lay_counts(rate, positions, kicks, counts);
-    let ceiling = opening::fresh_ceiling(rate, store, counts);
-    let strip = opening::fresh_strip(rate, setup, positions.len(), kicks.len(), ceiling);
+    let strip = opening::open_strip(rate, setup, positions, values, kicks, store, counts);
     Opened::Strip(strip)
 }
 
@@ -63,30 +65,35 @@ pub fn run(
 
 // ---- latch
 
-// Both ramps on their way from the strip's position. The lane's tuning follows the daylight's, so it is given up.
+// Both ramps on their way from n. The lane's tuning follows the daylight's, so it is given up.
+pub fn lane_latched(n: u64, lane: Lane, controls: Controls) -> Lane
+    ensures { λ r. ⌜ r ≡ laneLatchedOn n lane controls ⌝ }
+{
+    let setup = lane.setup;
+    let tape = tape::untuned(lane.tape);
+    let daylight = lane.daylight
+        .toward(n, casts::widen(controls.daylight), controls.grading);
+    let rain = lane.rain
+        .toward(n, casts::widen(controls.rain), controls.darkening);
+    Lane {
+        setup,
+        points: lane.points,
+        daylight,
+        rain,
+        tape,
+    }
+}
+
 fn latched(strip: Strip, controls: Controls) -> Strip
     ensures { λ r. ⌜ r ≡ latchedStrip strip controls ⌝ }
 {
     let n = strip.position;
-    let setup = strip.setup;
-    let tape = tape::untuned(strip.tape);
-    let plate = strip.plate;
-    let ceiling = strip.ceiling;
-    let daylight = strip
-        .daylight
-        .toward(n, casts::widen(controls.daylight), controls.grading);
-    let rain = strip
-        .rain
-        .toward(n, casts::widen(controls.rain), controls.darkening);
+    let bus = strip.bus;
+    let lane = lane_latched(n, strip.lane, controls);
     Strip {
         position: n,
-        setup,
-        points: strip.points,
-        daylight,
-        rain,
-        tape,
-        plate,
-        ceiling,
+        lane,
+        bus,
     }
 }
 
@@ -107,20 +114,39 @@ pub fn latch(strip: Strip, controls: Controls, store: &[f64], counts: &[u64]) ->
 
 // ---- rest
 
-// Whether the lane's and the plate's filters and lines hold only zeros.
+// Whether the lane's filters and the warp's line hold only zeros.
+pub fn lane_resting(rate: Rate, lane: Lane, samples: &[f64]) -> bool
+    requires { ⌜ length (now samples) ≡ laneSamples rate ⌝ }
+    ensures { λ r. ⌜ r ≡ laneRestingOn rate lane (now (samples .entry)) ⌝ }
+{
+    let w = places::warp_samples(rate);
+    tape::at_rest(lane.tape, &samples[0..w])
+}
+
+// Whether the plate's filters and lines do.
+pub fn bus_resting(rate: Rate, bus: Bus, samples: &[f64]) -> bool
+    requires { ⌜ RateUsable rate ⌝ }
+    requires { ⌜ length (now samples) ≡ busSamples rate ⌝ }
+    ensures { λ r. ⌜ r ≡ busRestingOn rate bus (now (samples .entry)) ⌝ }
+{
+    let p = places::plate_samples(rate);
+    plate::at_rest(bus.plate, &samples[0..p])
+}
+
+// Lends each its parts of the stores.
 fn resting(rate: Rate, strip: Strip, store: &[f64], counts: &[u64]) -> bool
     requires { ⌜ RateUsable rate ⌝ }
     requires { ⌜ Sized rate (now store) (now counts) ⌝ }
     ensures { λ r. ⌜ r ≡ restingOn rate (state strip (now (store .entry)) (now (counts .entry))) ⌝ }
 {
-    let a = rate::places::plate_at(rate);
-    let e = rate::places::ceiling_at(rate);
-    let tape = strip.tape;
-    let plate = strip.plate;
-    if tape::at_rest(tape, &store[0..a]) {
-        return plate::at_rest(plate, &store[a..e]);
+    let lane = strip.lane;
+    let bus = strip.bus;
+    let lane_at = places::bus_samples(rate);
+    let lane_end = lane_at + places::lane_samples(rate);
+    if !lane_resting(rate, lane, &store[lane_at..lane_end]) {
+        return false;
     }
-    false
+    bus_resting(rate, bus, &store[0..lane_at])
 }
 
 pub fn rest(strip: Strip, store: &[f64], counts: &[u64]) -> Rested

@@ -4,9 +4,13 @@ use mathlib.Core.Bool.{false}
 use Prim.Native.Nat.{ℕ, _+_, _-_, _*_, _≤_, _<_}
 use native.Mathlib.Omega.{arith}
 use native.Mathlib.Decide.{decLt}
+use mathlib.Core.List.{List}
 use lib.Dec.{leb, eqb}
+use lib.ListN.{length, take, drop, length-drop}
+use lib.Seq.{take-all}
 use borrow.Author.Tests.{le-leb, lt-leb, eq-eqb, ne-eqb}
-use Rattle.strip.specs.Refusals.{furthest, okOutputs, okEnd}
+use Rattle.ranges.specs.Ranges.{lastPosition}
+use Rattle.strip.specs.Refusals.{okOutputs, okEnd}
 
 -- ---- 5 and 6, with no product or sum that could wrap
 module _ (samples frames gains : ℕ) where
@@ -19,13 +23,17 @@ module _ (samples frames gains : ℕ) where
   alike e = rw (eq-eqb frames (2 * samples) e)
 
 module _ (position samples : ℕ) where
-  pub beyond : furthest < position → false ≡ okEnd position samples
+  pub beyond : lastPosition < position → false ≡ okEnd position samples
   unfolding okEnd
-  beyond h = sym (lt-leb (position + samples) furthest (omega arith))
+  beyond h = sym (lt-leb (position + samples) lastPosition (omega arith))
 
-  pub up-to : position ≤ furthest → leb samples (furthest - position) ≡ okEnd position samples
+  pub up-to : position ≤ lastPosition → leb samples (lastPosition - position) ≡ okEnd position samples
   unfolding okEnd
-  up-to h = elim (decLt furthest (position + samples)) [
-    | yes i ↦ lt-leb samples (furthest - position) (omega arith) ∙ sym (lt-leb (position + samples) furthest i)
-    | no i ↦ le-leb samples (furthest - position) (omega arith) ∙ sym (le-leb (position + samples) furthest (omega arith))
+  up-to h = elim (decLt lastPosition (position + samples)) [
+    | yes i ↦ lt-leb samples (lastPosition - position) (omega arith) ∙ sym (lt-leb (position + samples) lastPosition i)
+    | no i ↦ le-leb samples (lastPosition - position) (omega arith) ∙ sym (le-leb (position + samples) lastPosition (omega arith))
   ]
+
+-- ---- 4: what is lent of a part from a place on
+pub from-on : {X : Type 0} (p : ℕ) (l : List X) → take (length l - p) (drop p l) ≡ drop p l
+from-on p l = take-all (length l - p) (drop p l) (simp length-drop (omega arith))

@@ -1,26 +1,27 @@
 // Document 01, 'When the part declines': a function for each ground, true where the part does not decline, and the numbers in their order.
 // Uses casts, ranges, duck, master and rate, and strip for the types and definitions.
 ghost use mathlib.Core.Path.{_≡_};
-ghost use Prim.Native.Nat.{_+_, _≤_};
-ghost use lib.ListN.{take, drop};
+ghost use mathlib.Core.Bool.{_&&_};
+ghost use mathlib.Core.List.{[]};
+ghost use lib.Dec.{leb};
+ghost use lib.ListN.{length, take, drop};
 ghost use Rattle.casts.specs.Arithmetic.{whole, nought};
-ghost use Rattle.ranges.specs.Ranges.{inRange};
-ghost use Rattle.rate.specs.Rate.{rateOf, tapeSamples, plateSamples, ceilingSamples, valuesAt, tapeCounts, ceilingCounts, positionsAt, RateUsable};
-ghost use Rattle.strip.specs.Refusals.{longEnough, okCorner, okDrive, okUnit, okTone, okPad, okGain, okTape, okSetup, okPoints, okKicks, okLists, okRamp, okOutputs, okEnd, okSamples, okControls, runRefusal, latchRefusal, openRefusal};
-ghost use Rattle.strip.specs.Calls.{state, formed, first};
-ghost use Rattle.duck.specs.Cursors.{duckOn, duckFormed};
-ghost use Rattle.master.specs.Kept.{ceilingOn};
-ghost use Rattle.master.specs.WellFormed.{wellFormed};
-ghost use Rattle.refusals.specs.Pieces.{listsOf, stripFormed};
-ghost use Rattle.rate.specs.Rate.{Sized};
+ghost use Rattle.ranges.specs.Ranges.{mostPoints, inRange};
+ghost use Rattle.duck.specs.Cursors.{duckCounts, duckOn, duckFormed};
+ghost use Rattle.rate.specs.Rate.{rateOf, RateUsable, Sized};
+ghost use Rattle.rate.specs.Stores.{warpSamples, laneSamples, laneCounts};
+ghost use Rattle.strip.specs.Refusals.{longEnough, okCorner, okDrive, okUnit, okTone, okPad, okGain, okTape, okSetup, okPoints, okKicks, okLists, okRamp, okOutputs, okEnd, okSamples, okControls};
+ghost use Rattle.strip.specs.Kept.{listsOf, laneOn, LaneLong, busOn, BusLong, state, laneFormed, busFormed, formed};
+ghost use Rattle.strip.specs.Calls.{firstOf, openGrounds, runGrounds, latchGrounds, first};
 use automation::Tone;
 use duck::Duck;
-use master::Ceiling;
 use oscillators::Pad;
 use ramp::Ramp;
 use rate::Rate;
 use rate::places;
+use strip::Bus;
 use strip::Controls;
+use strip::Lane;
 use strip::Setup;
 use strip::Strip;
 use tape::TapeSetup;
@@ -175,7 +176,7 @@ fn ok_points(positions: &[u64], values: &[f64]) -> bool
     ensures { λ r. ⌜ r ≡ okPoints (now (positions .entry)) (now (values .entry)) ⌝ }
 {
     let n = positions.len();
-    if 256 < n {
+    if ranges::MOST_POINTS < n {
         return false;
     }
     if n != values.len() {
@@ -190,7 +191,7 @@ fn ok_points(positions: &[u64], values: &[f64]) -> bool
 fn ok_kicks(kicks: &[u64]) -> bool
     ensures { λ r. ⌜ r ≡ okKicks (now (kicks .entry)) ⌝ }
 {
-    if 1024 < kicks.len() {
+    if ranges::MOST_KICKS < kicks.len() {
         return false;
     }
     ranges::rising(kicks)
@@ -215,7 +216,7 @@ pub fn open_refusal(
     store: &[f64],
     counts: &[u64],
 ) -> u64
-    ensures { λ r. ⌜ r ≡ openRefusal rate setup (listsOf (now (positions .entry)) (now (values .entry)) (now (kicks .entry))) (now (store .entry)) (now (counts .entry)) ⌝ }
+    ensures { λ r. ⌜ r ≡ firstOf (openGrounds rate setup (listsOf (now (positions .entry)) (now (values .entry)) (now (kicks .entry))) (now (store .entry)) (now (counts .entry))) ⌝ }
 {
     if !long_enough(rate, store, counts) {
         return 1;
@@ -235,60 +236,39 @@ pub fn open_refusal(
 fn ok_ramp(ramp: Ramp) -> bool
     ensures { λ r. ⌜ r ≡ okRamp ramp ⌝ }
 {
-    if ranges::LAST < ramp.start {
+    if ranges::LAST_POSITION < ramp.start {
         return false;
     }
-    ramp.len <= ranges::LAST
+    ramp.len <= ranges::LAST_POSITION
 }
 
-// The kept points, which a strip holds few enough of.
-fn points_formed(rate: Rate, points: usize, store: &[f64], counts: &[u64]) -> bool
-    requires { ⌜ RateUsable rate ⌝ }
-    requires { ⌜ Sized rate (now store) (now counts) ⌝ }
-    requires { ⌜ points ≤ 256 ⌝ }
-    ensures { λ r. ⌜ r ≡ okPoints (take points (drop (positionsAt rate) (now (counts .entry)))) (take points (drop (valuesAt rate) (now (store .entry)))) ⌝ }
+// The kept lists: no more points than there is room for, and these and the kicks as 3 asks.
+fn lists_formed(rate: Rate, points: usize, duck: Duck, samples: &[f64], counts: &[u64]) -> bool
+    requires { ⌜ (length (now samples) ≡ laneSamples rate) × (length (now counts) ≡ laneCounts) ⌝ }
+    ensures { λ r. ⌜ r ≡ (leb points mostPoints && (okPoints (take points (drop duckCounts (now (counts .entry)))) (take points (drop (warpSamples (rate .tape)) (now (samples .entry)))) && duckFormed (duckOn duck (take duckCounts (now (counts .entry)))))) ⌝ }
 {
-    let p = places::positions_at(rate);
-    let v = places::values_at(rate);
-    let q = p + points;
-    let w = v + points;
-    ok_points(&counts[p..q], &store[v..w])
-}
-
-fn duck_formed(rate: Rate, duck: Duck, store: &[f64], counts: &[u64]) -> bool
-    requires { ⌜ RateUsable rate ⌝ }
-    requires { ⌜ Sized rate (now store) (now counts) ⌝ }
-    ensures { λ r. ⌜ r ≡ duckFormed (duckOn duck (take 2048 (now (counts .entry)))) ⌝ }
-{
-    duck::formed(duck, &counts[0..places::DUCK])
-}
-
-fn ceiling_formed(rate: Rate, ceiling: Ceiling, store: &[f64], counts: &[u64]) -> bool
-    requires { ⌜ RateUsable rate ⌝ }
-    requires { ⌜ Sized rate (now store) (now counts) ⌝ }
-    ensures { λ r. ⌜ r ≡ wellFormed (rate .ceiling) (ceilingOn ceiling (take (ceilingSamples rate) (drop (tapeSamples rate + plateSamples rate) (now (store .entry)))) (take (ceilingCounts rate) (drop tapeCounts (now (counts .entry))))) ⌝ }
-{
-    let a = places::ceiling_at(rate);
-    let v = places::values_at(rate);
-    let p = places::positions_at(rate);
-    master::well_formed(
-        rate.ceiling,
-        ceiling,
-        &store[a..v],
-        &counts[places::DUCK..p],
-    )
-}
-
-// The numbers that lie in the strip itself.
-fn strip_formed(strip: Strip) -> bool
-    ensures { λ r. ⌜ r ≡ stripFormed strip ⌝ }
-{
-    let daylight = strip.daylight;
-    let rain = strip.rain;
-    let setup = strip.setup;
-    if ranges::LAST < strip.position {
+    if ranges::MOST_POINTS < points {
         return false;
     }
+    let w = places::warp_samples(rate);
+    let v = w + points;
+    let p = duck::COUNTS + points;
+    if !ok_points(&counts[duck::COUNTS..p], &samples[w..v]) {
+        return false;
+    }
+    duck::formed(duck, &counts[0..duck::COUNTS])
+}
+
+// A lane, with its own parts of the stores.
+pub fn lane_formed(rate: Rate, lane: Lane, samples: &[f64], counts: &[u64]) -> bool
+    requires { ⌜ RateUsable rate ⌝ }
+    requires { ⌜ LaneLong rate (laneOn lane (now samples) (now counts)) ⌝ }
+    ensures { λ r. ⌜ r ≡ laneFormed rate (laneOn lane (now (samples .entry)) (now (counts .entry))) ⌝ }
+{
+    let daylight = lane.daylight;
+    let rain = lane.rain;
+    let setup = lane.setup;
+    let duck = lane.tape.duck;
     if !ok_ramp(daylight) {
         return false;
     }
@@ -298,31 +278,48 @@ fn strip_formed(strip: Strip) -> bool
     if !ok_setup(setup) {
         return false;
     }
-    strip.points <= 256
+    lists_formed(rate, lane.points, duck, samples, counts)
 }
 
+// A bus, with its own.
+pub fn bus_formed(rate: Rate, bus: Bus, samples: &[f64], counts: &[u64]) -> bool
+    requires { ⌜ RateUsable rate ⌝ }
+    requires { ⌜ BusLong rate (busOn bus (now samples) (now counts)) ⌝ }
+    ensures { λ r. ⌜ r ≡ busFormed rate (busOn bus (now (samples .entry)) (now (counts .entry))) ⌝ }
+{
+    let p = places::plate_samples(rate);
+    master::well_formed(rate.ceiling, bus.ceiling, &samples[p..], counts)
+}
+
+// Lends each its parts of the stores.
 fn formed(rate: Rate, strip: Strip, store: &[f64], counts: &[u64]) -> bool
     requires { ⌜ RateUsable rate ⌝ }
     requires { ⌜ Sized rate (now store) (now counts) ⌝ }
     ensures { λ r. ⌜ r ≡ formed rate (state strip (now (store .entry)) (now (counts .entry))) ⌝ }
 {
-    let duck = strip.tape.duck;
-    let ceiling = strip.ceiling;
-    if !strip_formed(strip) {
+    if ranges::LAST_POSITION < strip.position {
         return false;
     }
-    if !points_formed(rate, strip.points, store, counts) {
+    let lane = strip.lane;
+    let bus = strip.bus;
+    let lane_at = places::bus_samples(rate);
+    let counts_at = places::bus_counts(rate);
+    let lane_end = lane_at + places::lane_samples(rate);
+    let counts_end = counts_at + places::LANE_COUNTS;
+    if !lane_formed(
+        rate,
+        lane,
+        &store[lane_at..lane_end],
+        &counts[counts_at..counts_end],
+    ) {
         return false;
     }
-    if !duck_formed(rate, duck, store, counts) {
-        return false;
-    }
-    ceiling_formed(rate, ceiling, store, counts)
+    bus_formed(rate, bus, &store[0..lane_at], &counts[0..counts_at])
 }
 
 // 1 and 4, or 0. The rate is made here, so that its numbers are constants to the compiler.
 pub fn first(strip: Strip, store: &[f64], counts: &[u64]) -> u64
-    ensures { λ r. ⌜ r ≡ first (rateOf 44100) (state strip (now (store .entry)) (now (counts .entry))) 0 ⌝ }
+    ensures { λ r. ⌜ r ≡ first (rateOf 44100) (state strip (now (store .entry)) (now (counts .entry))) [] ⌝ }
 {
     let rate = Rate::cd();
     if !long_enough(rate, store, counts) {
@@ -354,10 +351,10 @@ fn ok_outputs(samples: usize, frames: usize, gains: usize) -> bool
 fn ok_end(position: u64, samples: usize) -> bool
     ensures { λ r. ⌜ r ≡ okEnd position samples ⌝ }
 {
-    if ranges::LAST < position {
+    if ranges::LAST_POSITION < position {
         return false;
     }
-    samples as u64 <= ranges::LAST - position
+    samples as u64 <= ranges::LAST_POSITION - position
 }
 
 fn ok_samples(samples: &[f64]) -> bool
@@ -368,7 +365,7 @@ fn ok_samples(samples: &[f64]) -> bool
 
 // 5, 6 and 7, or 0.
 pub fn run_refusal(position: u64, samples: &[f64], frames: usize, gains: usize) -> u64
-    ensures { λ r. ⌜ r ≡ runRefusal position (now (samples .entry)) frames gains ⌝ }
+    ensures { λ r. ⌜ r ≡ firstOf (runGrounds position (now (samples .entry)) frames gains) ⌝ }
 {
     let n = samples.len();
     if !ok_outputs(n, frames, gains) {
@@ -391,15 +388,15 @@ fn ok_controls(controls: Controls) -> bool
     if !ok_unit_f32(controls.rain) {
         return false;
     }
-    if ranges::LAST < controls.grading {
+    if ranges::LAST_POSITION < controls.grading {
         return false;
     }
-    controls.darkening <= ranges::LAST
+    controls.darkening <= ranges::LAST_POSITION
 }
 
 // 8, or 0.
 pub fn latch_refusal(controls: Controls) -> u64
-    ensures { λ r. ⌜ r ≡ latchRefusal controls ⌝ }
+    ensures { λ r. ⌜ r ≡ firstOf (latchGrounds controls) ⌝ }
 {
     if ok_controls(controls) { 0 } else { 8 }
 }

@@ -6,7 +6,7 @@ use lib.ListN.{length}
 use Rattle.rate.specs.Rate.{RateUsable}
 use Rattle.rate.proofs.Rates.{usable-44100}
 use Rattle.tape.proofs.Lasting.{tuned-some}
-use Rattle.strip.specs.Calls.{state, listsIn}
+use Rattle.strip.specs.Kept.{state, listsIn, laneIn}
 use Rattle.blocks.specs.Run.{Runs}
 use Rattle.blocks.proofs.Rooms.{mid-put, room, back}
 use Rattle.blocks.proofs.Going.{Going, go-start, go-turn, go-done}
@@ -46,8 +46,8 @@ block-len-requires : tie.Need-block-len-requires Inv-loop μ-loop
 block-len-requires c κs =
     let r = c .before .before .before .before .before .cd .result in
     let l = c .before .before .before .before .loop in
-    let lists = listsIn r (state (l .strip) (l .store) (l .counts)) in
-    (rw (c .tuned .ensures) (tuned-some (r .tape) (l .strip .setup .tape .tone) (l .strip .daylight) (lists .positions) (lists .values) (l .strip .position) (l .strip .tape)), omega (arith, c .before .before .before .loop-test .taken))
+    let lists = listsIn r (laneIn r (state (l .strip) (l .store) (l .counts))) in
+    (rw (c .tuned .ensures) (tuned-some (r .tape) (l .strip .lane .setup .tape .tone) (l .strip .lane .daylight) (lists .positions) (lists .values) (l .strip .position) (l .strip .lane .tape)), omega (arith, c .before .before .before .loop-test .taken))
 
 add-e : tie.Need-add-e Inv-loop μ-loop
 add-e c = omega (arith, c .block-len .ensures .2, c .before .before .before .before .loop-test .taken, c .before .before .before .before .before .before .before .before .before .before .before .before .pre .1 .0)
@@ -82,8 +82,8 @@ part-dry-end c = omega (arith, c .before .block-len .ensures .2, c .before .befo
 copy-requires : tie.Need-copy-requires Inv-loop μ-loop
 copy-requires c κs = omega (arith, c .before .copy-arg .given .2, c .dry .given .2)
 
-sub-stages : tie.Need-sub-stages Inv-loop μ-loop
-sub-stages c = omega arith
+sub-block : tie.Need-sub-block Inv-loop μ-loop
+sub-block c = omega arith
 
 part-dry-start-2 : tie.Need-part-dry-start-2 Inv-loop μ-loop
 part-dry-start-2 c = omega arith
@@ -91,8 +91,8 @@ part-dry-start-2 c = omega arith
 part-dry-end-2 : tie.Need-part-dry-end-2 Inv-loop μ-loop
 part-dry-end-2 c = room (c .before .before .before .before .block-len .result - 0) (c .before .before .before .before .block-len .result) (c .before .before .before .before .before .before .before .before .before .loop .dry) (c .before .copy .last .1 .0) (c .dry2 .given) (omega (arith, c .before .before .before .before .block-len .ensures .2, c .before .before .before .before .before .before .before .before .before .loop .inv .1))
 
-sub-stages-2 : tie.Need-sub-stages-2 Inv-loop μ-loop
-sub-stages-2 c = omega arith
+sub-block-2 : tie.Need-sub-block-2 Inv-loop μ-loop
+sub-block-2 c = omega arith
 
 part-left-start : tie.Need-part-left-start Inv-loop μ-loop
 part-left-start c = omega arith
@@ -100,8 +100,8 @@ part-left-start c = omega arith
 part-left-end : tie.Need-part-left-end Inv-loop μ-loop
 part-left-end c = omega (arith, c .before .before .before .before .before .block-len .ensures .2, c .before .before .before .before .before .before .before .before .before .before .loop .inv .1)
 
-sub-stages-3 : tie.Need-sub-stages-3 Inv-loop μ-loop
-sub-stages-3 c = omega arith
+sub-block-3 : tie.Need-sub-block-3 Inv-loop μ-loop
+sub-block-3 c = omega arith
 
 part-right-start : tie.Need-part-right-start Inv-loop μ-loop
 part-right-start c = omega arith
@@ -109,32 +109,32 @@ part-right-start c = omega arith
 part-right-end : tie.Need-part-right-end Inv-loop μ-loop
 part-right-end c = omega (arith, c .before .before .before .before .before .before .block-len .ensures .2, c .before .before .before .before .before .before .before .before .before .before .before .loop .inv .1)
 
-mul-stages : tie.Need-mul-stages Inv-loop μ-loop
-mul-stages c = omega (arith, c .before .before .before .before .before .before .before .block-len .ensures .2, c .before .before .before .before .before .before .before .before .before .before .before .loop-test .taken, c .before .before .before .before .before .before .before .before .before .before .before .before .loop .inv .1, c .before .before .before .before .before .before .before .before .before .before .before .before .before .before .before .before .before .before .before .pre .1 .0)
+mul-block : tie.Need-mul-block Inv-loop μ-loop
+mul-block c = omega (arith, c .before .before .before .before .before .before .before .block-len .ensures .2, c .before .before .before .before .before .before .before .before .before .before .before .loop-test .taken, c .before .before .before .before .before .before .before .before .before .before .before .before .loop .inv .1, c .before .before .before .before .before .before .before .before .before .before .before .before .before .before .before .before .before .before .before .pre .1 .0)
 
-sub-stages-4 : tie.Need-sub-stages-4 Inv-loop μ-loop
-sub-stages-4 c = omega (arith, c .before .before .before .before .before .before .before .block-len .ensures .2, c .before .before .before .before .before .before .before .before .before .before .before .loop-test .taken, c .before .before .before .before .before .before .before .before .before .before .before .before .loop .inv .1, c .before .before .before .before .before .before .before .before .before .before .before .before .before .before .before .before .before .before .before .pre .1 .0)
+sub-block-4 : tie.Need-sub-block-4 Inv-loop μ-loop
+sub-block-4 c = omega (arith, c .before .before .before .before .before .before .before .block-len .ensures .2, c .before .before .before .before .before .before .before .before .before .before .before .loop-test .taken, c .before .before .before .before .before .before .before .before .before .before .before .before .loop .inv .1, c .before .before .before .before .before .before .before .before .before .before .before .before .before .before .before .before .before .before .before .pre .1 .0)
 
-part-stages-start : tie.Need-part-stages-start Inv-loop μ-loop
-part-stages-start c = omega (arith, c .before .before .before .before .before .before .before .block-len .ensures .2, c .before .before .before .before .before .before .before .before .before .before .before .loop-test .taken, c .before .before .before .before .before .before .before .before .before .before .before .before .loop .inv .1, c .before .before .before .before .before .before .before .before .before .before .before .before .before .before .before .before .before .before .before .pre .1 .0)
+part-block-start : tie.Need-part-block-start Inv-loop μ-loop
+part-block-start c = omega (arith, c .before .before .before .before .before .before .before .block-len .ensures .2, c .before .before .before .before .before .before .before .before .before .before .before .loop-test .taken, c .before .before .before .before .before .before .before .before .before .before .before .before .loop .inv .1, c .before .before .before .before .before .before .before .before .before .before .before .before .before .before .before .before .before .before .before .pre .1 .0)
 
-part-stages-end : tie.Need-part-stages-end Inv-loop μ-loop
-part-stages-end c = omega (arith, c .before .before .before .before .before .before .before .block-len .ensures .2, c .before .before .before .before .before .before .before .before .before .before .before .loop-test .taken, c .before .before .before .before .before .before .before .before .before .before .before .before .loop .inv .1, c .before .before .before .before .before .before .before .before .before .before .before .before .before .before .before .before .before .before .before .pre .1 .0)
+part-block-end : tie.Need-part-block-end Inv-loop μ-loop
+part-block-end c = omega (arith, c .before .before .before .before .before .before .before .block-len .ensures .2, c .before .before .before .before .before .before .before .before .before .before .before .loop-test .taken, c .before .before .before .before .before .before .before .before .before .before .before .before .loop .inv .1, c .before .before .before .before .before .before .before .before .before .before .before .before .before .before .before .before .before .before .before .pre .1 .0)
 
-mul-stages-2 : tie.Need-mul-stages-2 Inv-loop μ-loop
-mul-stages-2 c = omega (arith, c .before .before .before .before .before .before .before .before .block-len .ensures .2, c .before .before .before .before .before .before .before .before .before .before .before .before .loop-test .taken, c .before .before .before .before .before .before .before .before .before .before .before .before .before .loop .inv .1, c .before .before .before .before .before .before .before .before .before .before .before .before .before .before .before .before .before .before .before .before .pre .1 .0)
+mul-block-2 : tie.Need-mul-block-2 Inv-loop μ-loop
+mul-block-2 c = omega (arith, c .before .before .before .before .before .before .before .before .block-len .ensures .2, c .before .before .before .before .before .before .before .before .before .before .before .before .loop-test .taken, c .before .before .before .before .before .before .before .before .before .before .before .before .before .loop .inv .1, c .before .before .before .before .before .before .before .before .before .before .before .before .before .before .before .before .before .before .before .before .pre .1 .0)
 
-sub-stages-5 : tie.Need-sub-stages-5 Inv-loop μ-loop
-sub-stages-5 c = omega (arith, c .before .before .before .before .before .before .before .before .block-len .ensures .2, c .before .before .before .before .before .before .before .before .before .before .before .before .loop-test .taken, c .before .before .before .before .before .before .before .before .before .before .before .before .before .loop .inv .1, c .before .before .before .before .before .before .before .before .before .before .before .before .before .before .before .before .before .before .before .before .pre .1 .0)
+sub-block-5 : tie.Need-sub-block-5 Inv-loop μ-loop
+sub-block-5 c = omega (arith, c .before .before .before .before .before .before .before .before .block-len .ensures .2, c .before .before .before .before .before .before .before .before .before .before .before .before .loop-test .taken, c .before .before .before .before .before .before .before .before .before .before .before .before .before .loop .inv .1, c .before .before .before .before .before .before .before .before .before .before .before .before .before .before .before .before .before .before .before .before .pre .1 .0)
 
-part-stages-start-2 : tie.Need-part-stages-start-2 Inv-loop μ-loop
-part-stages-start-2 c = omega (arith, c .before .before .before .before .before .before .before .before .block-len .ensures .2, c .before .before .before .before .before .before .before .before .before .before .before .before .loop-test .taken, c .before .before .before .before .before .before .before .before .before .before .before .before .before .loop .inv .1, c .before .before .before .before .before .before .before .before .before .before .before .before .before .before .before .before .before .before .before .before .pre .1 .0)
+part-block-start-2 : tie.Need-part-block-start-2 Inv-loop μ-loop
+part-block-start-2 c = omega (arith, c .before .before .before .before .before .before .before .before .block-len .ensures .2, c .before .before .before .before .before .before .before .before .before .before .before .before .loop-test .taken, c .before .before .before .before .before .before .before .before .before .before .before .before .before .loop .inv .1, c .before .before .before .before .before .before .before .before .before .before .before .before .before .before .before .before .before .before .before .before .pre .1 .0)
 
-part-stages-end-2 : tie.Need-part-stages-end-2 Inv-loop μ-loop
-part-stages-end-2 c = omega (arith, c .before .before .before .before .before .before .before .before .block-len .ensures .2, c .before .before .before .before .before .before .before .before .before .before .before .before .loop-test .taken, c .before .before .before .before .before .before .before .before .before .before .before .before .before .loop .inv .1, c .before .before .before .before .before .before .before .before .before .before .before .before .before .before .before .before .before .before .before .before .pre .1 .0)
+part-block-end-2 : tie.Need-part-block-end-2 Inv-loop μ-loop
+part-block-end-2 c = omega (arith, c .before .before .before .before .before .before .before .before .block-len .ensures .2, c .before .before .before .before .before .before .before .before .before .before .before .before .loop-test .taken, c .before .before .before .before .before .before .before .before .before .before .before .before .before .loop .inv .1, c .before .before .before .before .before .before .before .before .before .before .before .before .before .before .before .before .before .before .before .before .pre .1 .0)
 
-stages-requires : tie.Need-stages-requires Inv-loop μ-loop
-stages-requires c κs =
+block-requires : tie.Need-block-requires Inv-loop μ-loop
+block-requires c κs =
     let s = c .before .before .before .before .before .before .before .before .before .before .before .before .before .before .before .before .before .before .before .before .before .before .before in
     let l = c .before .before .before .before .before .before .before .before .before .before .before .before .before .before .before .before .loop in
     let q = c .before .before .before .before .before .before .before .before .before .before .before .before .tuned .ensures in
@@ -149,14 +149,14 @@ stages-requires c κs =
           (
             record {
               some = omega (arith, k, m .0);
-              few = let f = rw q at (m .1) in omega (arith, k, f);
+              few = omega (arith, k, m .1);
               before = omega (arith, k, m .2, l .inv .0 .place, s .pre .1 .0, h);
             },
             record {
               left = omega (arith, k, c .before .before .before .before .before .left .given .2);
               right = omega (arith, k, c .before .before .before .before .right .given .2);
-              frames = omega (arith, k, c .before .before .before .stages-arg .given .2);
-              gains = omega (arith, k, c .before .before .stages-arg2 .given .2);
+              frames = omega (arith, k, c .before .before .before .block-arg .given .2);
+              gains = omega (arith, k, c .before .before .block-arg2 .given .2);
             },
           ),
         ),
@@ -171,7 +171,7 @@ loop-again c =
     let s = c .before .before .before .before .before .before .before .before .before .before .before .before .before .before .before .before .before .before .before .before .before .before .before .before .before .before .before .before .before .before .before .before .before .before .before in
     let r = c .before .before .before .before .before .before .before .before .before .before .before .before .before .before .before .before .before .before .before .before .before .before .before .before .before .before .before .before .before .cd in
     let l = c .before .before .before .before .before .before .before .before .before .before .before .before .before .before .before .before .before .before .before .before .before .before .before .before .before .before .before .before .loop in
-    let w = c .before .before .before .before .before .before .before .before .before .before .before .stages in
+    let w = c .before .before .before .before .before .before .before .before .before .before .before .block in
     let n = c .before .before .before .before .before .before .before .before .before .before .before .before .before .before .before .before .before .before .before .before .before .before .before .block-len in
     let k = c .before .before .before .before .before .before .before .before .before .before .before .before .before .before .before .before .before .before .before .before .copy in
     let h = c .before .before .before .before .before .before .before .before .before .before .before .before .before .before .before .before .before .before .before .before .before .before .before .before .before .before .before .loop-test .taken in
@@ -231,24 +231,24 @@ go-spec =
     part-dry-start
     part-dry-end
     copy-requires
-    sub-stages
+    sub-block
     part-dry-start-2
     part-dry-end-2
-    sub-stages-2
+    sub-block-2
     part-left-start
     part-left-end
-    sub-stages-3
+    sub-block-3
     part-right-start
     part-right-end
-    mul-stages
-    sub-stages-4
-    part-stages-start
-    part-stages-end
-    mul-stages-2
-    sub-stages-5
-    part-stages-start-2
-    part-stages-end-2
-    stages-requires
+    mul-block
+    sub-block-4
+    part-block-start
+    part-block-end
+    mul-block-2
+    sub-block-5
+    part-block-start-2
+    part-block-end-2
+    block-requires
     loop-less
     loop-again
     same-length

@@ -1,72 +1,80 @@
 use native.Mathlib.Omega.{arith}
-use mathlib.Core.Path.{_≡_}
-use Prim.Native.Nat.{_+_, _-_}
+use mathlib.Core.Path.{refl, ap, subst⁻¹, _∙_}
+use Prim.Native.Nat.{_+_}
+use Rattle.rate.specs.Stores.{laneCounts}
+use Rattle.blocks.specs.Run.{LaneRuns, tunedOf}
+use Rattle.blocks.proofs.Staged.{lane-of-lent}
 use borrow.Author.Needs.{needs}
 use Rattle.blocks.proofs.tuned.Statement.{statement}
 use Rattle.blocks.proofs.tuned.Tie as tie
 
-values-at-requires : tie.Need-values-at-requires
-values-at-requires c κs = search needs
+bus-samples-requires : tie.Need-bus-samples-requires
+bus-samples-requires c κs = search needs
 
-positions-at-requires : tie.Need-positions-at-requires
-positions-at-requires c κs = search needs
+lane-samples-requires : tie.Need-lane-samples-requires
+lane-samples-requires c κs = search needs
 
-add-values-end : tie.Need-add-values-end
-add-values-end c = search needs
+add-lane-end : tie.Need-add-lane-end
+add-lane-end c = search needs
 
-add-positions-end : tie.Need-add-positions-end
-add-positions-end c = search needs
+bus-counts-requires : tie.Need-bus-counts-requires
+bus-counts-requires c κs = search needs
 
-mul-tuned : tie.Need-mul-tuned
-mul-tuned c = search needs
+add-counts-end : tie.Need-add-counts-end
+add-counts-end c = search needs
 
-sub-tuned : tie.Need-sub-tuned
-sub-tuned c = search needs
+mul-lane-tuned : tie.Need-mul-lane-tuned
+mul-lane-tuned c = search needs
 
-part-tuned-start : tie.Need-part-tuned-start
-part-tuned-start c = search needs
+sub-lane-tuned : tie.Need-sub-lane-tuned
+sub-lane-tuned c = search needs
 
-part-tuned-end : tie.Need-part-tuned-end
-part-tuned-end c = search needs
+part-lane-tuned-start : tie.Need-part-lane-tuned-start
+part-lane-tuned-start c = search needs
 
-mul-tuned-2 : tie.Need-mul-tuned-2
-mul-tuned-2 c = search needs
+part-lane-tuned-end : tie.Need-part-lane-tuned-end
+part-lane-tuned-end c = search needs
 
-sub-tuned-2 : tie.Need-sub-tuned-2
-sub-tuned-2 c = search needs
+mul-lane-tuned-2 : tie.Need-mul-lane-tuned-2
+mul-lane-tuned-2 c = search needs
 
-part-tuned-start-2 : tie.Need-part-tuned-start-2
-part-tuned-start-2 c = search needs
+sub-lane-tuned-2 : tie.Need-sub-lane-tuned-2
+sub-lane-tuned-2 c = search needs
 
-part-tuned-end-2 : tie.Need-part-tuned-end-2
-part-tuned-end-2 c = search needs
+part-lane-tuned-start-2 : tie.Need-part-lane-tuned-start-2
+part-lane-tuned-start-2 c = search needs
 
-tuned-requires : tie.Need-tuned-requires
-tuned-requires c κs = search needs
+part-lane-tuned-end-2 : tie.Need-part-lane-tuned-end-2
+part-lane-tuned-end-2 c = search needs
+
+lane-tuned-requires : tie.Need-lane-tuned-requires
+lane-tuned-requires c κs =
+    let s = c .before .before .before .before .before .before .before in
+    let g = s .args in
+    (subst⁻¹ (LaneRuns (g .rate)) (lane-of-lent (g .rate) (s .pre .0) (g .strip) (g .store .now) (g .counts .now) (s .pre .1 .0) (c .before .before .before .before .bus-samples .result) (c .before .before .before .before .bus-samples .result + c .before .before .before .lane-samples .result) (c .before .before .bus-counts .result) (c .before .before .bus-counts .result + laneCounts) (c .before .before .before .before .bus-samples .ensures) (omega (arith, c .before .before .before .lane-samples .ensures)) (c .before .before .bus-counts .ensures) refl) (s .pre .1 .0 .lane), s .pre .1 .1)
 
 returns : tie.Need-returns
-returns c = let s = c .before .before .before .before .before .before .before .before .before .before .before in
-    let v = c .before .before .before .before .before .before .before .before .values-at .ensures in
-    let q = c .before .before .before .before .before .before .before .positions-at .ensures in
-    let k₁ : c .before .before .before .before .before .before .before .before .values-at .result + s .args .strip .points - c .before .before .before .before .before .before .before .before .values-at .result ≡ s .args .strip .points = omega arith in
-    let k₂ : c .before .before .before .before .before .before .before .positions-at .result + s .args .strip .points - c .before .before .before .before .before .before .before .positions-at .result ≡ s .args .strip .points = omega arith in
-    rw (c .tuned .ensures, k₁, k₂, v, q)
+returns c =
+    let s = c .before .before .before .before .before .before .before .before in
+    let g = s .args in
+    c .lane-tuned .ensures ∙ ap (tunedOf (g .rate) (g .strip .position)) (lane-of-lent (g .rate) (s .pre .0) (g .strip) (g .store .now) (g .counts .now) (s .pre .1 .0) (c .before .before .before .before .before .bus-samples .result) (c .before .before .before .before .before .bus-samples .result + c .before .before .before .before .lane-samples .result) (c .before .before .before .bus-counts .result) (c .before .before .before .bus-counts .result + laneCounts) (c .before .before .before .before .before .bus-samples .ensures) (omega (arith, c .before .before .before .before .lane-samples .ensures)) (c .before .before .before .bus-counts .ensures) refl)
 
 pub tuned-spec : {M : Type 1} → statement M
 tuned-spec =
     tie.close
     (tie.spec
-    values-at-requires
-    positions-at-requires
-    add-values-end
-    add-positions-end
-    mul-tuned
-    sub-tuned
-    part-tuned-start
-    part-tuned-end
-    mul-tuned-2
-    sub-tuned-2
-    part-tuned-start-2
-    part-tuned-end-2
-    tuned-requires
+    bus-samples-requires
+    lane-samples-requires
+    add-lane-end
+    bus-counts-requires
+    add-counts-end
+    mul-lane-tuned
+    sub-lane-tuned
+    part-lane-tuned-start
+    part-lane-tuned-end
+    mul-lane-tuned-2
+    sub-lane-tuned-2
+    part-lane-tuned-start-2
+    part-lane-tuned-end-2
+    lane-tuned-requires
     returns)

@@ -1,12 +1,12 @@
-use Rattle.opening.proofs.Parts.{counts-laid}
-use mathlib.Core.Path.{refl}
-use native.Mathlib.Omega.{arith}
+use mathlib.Core.Path.{ap, _∙_}
+use mathlib.Core.List.{_++_}
+use lib.ListN.{drop}
+use Rattle.stage.specs.Stage.{over}
+use Rattle.duck.specs.Cursors.{DuckIn, duckCounts}
+use Rattle.opening.proofs.Parts.{laid-behind}
 use borrow.Author.Needs.{needs}
 use Rattle.opening.proofs.lay_counts.Statement.{statement}
 use Rattle.opening.proofs.lay_counts.Tie as tie
-
-positions-at-requires : tie.Need-positions-at-requires
-positions-at-requires c κs = search needs
 
 sub-new : tie.Need-sub-new
 sub-new c = search needs
@@ -19,9 +19,6 @@ part-new-end c = search needs
 
 new-requires : tie.Need-new-requires
 new-requires c κs = search needs
-
-mul-lay-positions : tie.Need-mul-lay-positions
-mul-lay-positions c = search needs
 
 sub-lay-positions : tie.Need-sub-lay-positions
 sub-lay-positions c = search needs
@@ -40,22 +37,19 @@ same-length c = search needs
 
 returns : tie.Need-returns
 returns c =
-    let s = c .before .before .before .before .before .before .before .before .before .before .before .before in
-    let r = s .args .rate in
-    let room = s .pre .1 .0 in
-    let u = s .pre .0 .counts in
-    counts-laid r (s .args .positions .now) (s .args .kicks .now) (s .args .counts .now) _ _ (c .before .before .before .before .before .before .new .result) _ _ (c .before .before .before .before .before .before .before .before .positions-at .ensures) (omega arith) (s .pre .1 .2) (c .before .before .before .before .before .before .new .ensures) refl (c .before .before .lay-positions .ensures)
+    let s = c .before .before .before .before .before .before .before .before .before .before .before .args in
+    let z = c .before .before .before .before .before .before .new in
+    laid-behind duckCounts (s .counts .now) (z .last .1 .0) (search needs) (s .positions .now) _ (c .before .before .lay-positions .ensures)
+    ∙ ap (λ (d : DuckIn). d .part ++ over (s .positions .now) (drop duckCounts (s .counts .now))) (z .ensures)
 
 pub lay-counts-spec : {M : Type 1} → statement M
 lay-counts-spec =
     tie.close
     (tie.spec
-    positions-at-requires
     sub-new
     part-new-start
     part-new-end
     new-requires
-    mul-lay-positions
     sub-lay-positions
     part-lay-positions-start
     part-lay-positions-end

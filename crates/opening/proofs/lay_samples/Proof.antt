@@ -1,16 +1,12 @@
-use Prim.Native.Nat.{_-_}
-use Rattle.opening.proofs.Parts.{samples-laid}
-use mathlib.Core.Path.{refl}
-use native.Mathlib.Omega.{arith}
+use mathlib.Core.Path.{_∙_}
+use Rattle.casts.specs.Arithmetic.{nought}
+use Rattle.opening.proofs.Parts.{filled-to, laid-behind}
 use borrow.Author.Needs.{needs}
 use Rattle.opening.proofs.lay_samples.Statement.{statement}
 use Rattle.opening.proofs.lay_samples.Tie as tie
 
-ceiling-at-requires : tie.Need-ceiling-at-requires
-ceiling-at-requires c κs = search needs
-
-values-at-requires : tie.Need-values-at-requires
-values-at-requires c κs = search needs
+warp-samples-requires : tie.Need-warp-samples-requires
+warp-samples-requires c κs = search needs
 
 sub-clear : tie.Need-sub-clear
 sub-clear c = search needs
@@ -44,18 +40,17 @@ same-length c = search needs
 
 returns : tie.Need-returns
 returns c =
-    let s = c .before .before .before .before .before .before .before .before .before .before .before .before in
-    let r = s .args .rate in
-    let room = s .pre .1 .0 in
-    let u = s .pre .0 .samples in
-    samples-laid r (s .args .values .now) (s .args .store .now) _ _ (c .before .before .before .before .before .before .before .before .before .ceiling-at .result - 0) _ _ (omega (arith, c .before .before .before .before .before .before .before .before .before .ceiling-at .ensures)) (c .before .before .before .before .before .before .before .before .values-at .ensures) (omega arith) (c .before .before .before .before .before .before .clear .ensures) refl (c .before .before .lay-values .ensures)
+    let s = c .before .before .before .before .before .before .before .before .before .before .before .args in
+    let w = c .before .before .before .before .before .before .before .before .warp-samples in
+    let z = c .before .before .before .before .before .before .clear in
+    let e = filled-to (w .result) nought (s .samples .now) (z .last .0) (search needs) (z .ensures) in
+    laid-behind (w .result) (s .samples .now) (z .last .0) (search needs) (s .values .now) _ (c .before .before .lay-values .ensures) ∙ rw (e, w .ensures)
 
 pub lay-samples-spec : {M : Type 1} → statement M
 lay-samples-spec =
     tie.close
     (tie.spec
-    ceiling-at-requires
-    values-at-requires
+    warp-samples-requires
     sub-clear
     part-clear-start
     part-clear-end

@@ -1,4 +1,4 @@
-use Rattle.strip.specs.Calls.{state}
+use Rattle.strip.specs.Kept.{state}
 use Rattle.part.proofs.Ends.{latch-first, latch-own, latch-done}
 use Rattle.rate.specs.Rate.{rateOf}
 use borrow.Author.Needs.{needs}

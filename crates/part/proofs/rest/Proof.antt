@@ -1,6 +1,6 @@
 use Rattle.rate.specs.Rate.{rateOf}
 use Rattle.rate.proofs.Rates.{usable-44100}
-use Rattle.strip.specs.Calls.{state}
+use Rattle.strip.specs.Kept.{state}
 use Rattle.rate.specs.Rate.{Sized}
 use Rattle.refusals.proofs.Numbers.{fine}
 use Rattle.part.proofs.Ends.{rest-first, rest-done}

@@ -1,65 +1,71 @@
-use Prim.Native.Nat.{_-_}
-use native.Mathlib.Omega.{arith}
-use Rattle.strip.specs.Calls.{state}
-use Rattle.part.proofs.Ends.{lines-rest, lane-sounds}
-use mathlib.Core.Path.{sym, _∙_}
+use native.Mathlib.Nat.{add-sub-cancel-left, sub-zero}
+use Rattle.stage.proofs.Answered.{passes, fails}
+use Rattle.strip.specs.Kept.{restingOn}
 use borrow.Author.Needs.{needs}
 use Rattle.part.proofs.resting.Statement.{statement}
 use Rattle.part.proofs.resting.Tie as tie
 
-plate-at-requires : tie.Need-plate-at-requires
-plate-at-requires c κs = search needs
+bus-samples-requires : tie.Need-bus-samples-requires
+bus-samples-requires c κs = search needs
 
-ceiling-at-requires : tie.Need-ceiling-at-requires
-ceiling-at-requires c κs = search needs
+lane-samples-requires : tie.Need-lane-samples-requires
+lane-samples-requires c κs = search needs
 
-sub-at-rest : tie.Need-sub-at-rest
-sub-at-rest c = search needs
+add-lane-end : tie.Need-add-lane-end
+add-lane-end c = search needs
 
-part-at-rest-start : tie.Need-part-at-rest-start
-part-at-rest-start c = search needs
+mul-lane-resting : tie.Need-mul-lane-resting
+mul-lane-resting c = search needs
 
-part-at-rest-end : tie.Need-part-at-rest-end
-part-at-rest-end c = search needs
+sub-lane-resting : tie.Need-sub-lane-resting
+sub-lane-resting c = search needs
 
-at-rest-requires : tie.Need-at-rest-requires
-at-rest-requires c κs = search needs
+part-lane-resting-start : tie.Need-part-lane-resting-start
+part-lane-resting-start c = search needs
 
-mul-at-rest : tie.Need-mul-at-rest
-mul-at-rest c = search needs
+part-lane-resting-end : tie.Need-part-lane-resting-end
+part-lane-resting-end c = search needs
 
-sub-at-rest-2 : tie.Need-sub-at-rest-2
-sub-at-rest-2 c = search needs
-
-part-at-rest-start-2 : tie.Need-part-at-rest-start-2
-part-at-rest-start-2 c = search needs
-
-part-at-rest-end-2 : tie.Need-part-at-rest-end-2
-part-at-rest-end-2 c = search needs
-
-at-rest-requires-2 : tie.Need-at-rest-requires-2
-at-rest-requires-2 c κs = search needs
+lane-resting-requires : tie.Need-lane-resting-requires
+lane-resting-requires c κs = search needs
 
 returns : tie.Need-returns
-returns c = let s = c .before .before .before .before .before .before .before .before .before .before .before .args in lines-rest (s .rate) (state (s .strip) (s .store .now) (s .counts .now)) (c .before .before .before .before .before .before .before .before .plate-at .result - 0) _ _ _ (omega (arith, c .before .before .before .before .before .before .before .before .plate-at .ensures)) (c .before .before .before .before .before .before .before .before .plate-at .ensures) (c .before .before .before .before .before .before .before .ceiling-at .ensures) (sym (c .before .before .before .at-rest .ensures) ∙ c .before .before .if1 .taken) (c .at-rest2 .ensures)
+unfolding restingOn
+returns c = rw (fails (simp (add-sub-cancel-left, c .before .before .before .lane-samples .ensures, c .before .before .before .before .bus-samples .ensures) at (c .before .lane-resting .ensures)) (c .if1 .taken))
+
+sub-bus-resting : tie.Need-sub-bus-resting
+sub-bus-resting c = search needs
+
+part-bus-resting-start : tie.Need-part-bus-resting-start
+part-bus-resting-start c = search needs
+
+part-bus-resting-end : tie.Need-part-bus-resting-end
+part-bus-resting-end c = search needs
+
+bus-resting-requires : tie.Need-bus-resting-requires
+bus-resting-requires c κs = search needs
 
 returns-2 : tie.Need-returns-2
-returns-2 c = let s = c .before .before .before .before .before .before .before .before .before .args in lane-sounds (s .rate) (state (s .strip) (s .store .now) (s .counts .now)) (c .before .before .before .before .before .before .plate-at .result - 0) (omega (arith, c .before .before .before .before .before .before .plate-at .ensures)) (sym (c .before .at-rest .ensures) ∙ c .if1 .left)
+unfolding restingOn
+returns-2 c =
+    rw (passes (simp (add-sub-cancel-left, c .before .before .before .before .before .lane-samples .ensures, c .before .before .before .before .before .before .bus-samples .ensures) at (c .before .before .before .lane-resting .ensures)) (c .before .before .if1 .left))
+    (simp (sub-zero, c .before .before .before .before .before .before .bus-samples .ensures) at (c .bus-resting .ensures))
 
 pub resting-spec : {M : Type 1} → statement M
 resting-spec =
     tie.close
     (tie.spec
-    plate-at-requires
-    ceiling-at-requires
-    sub-at-rest
-    part-at-rest-start
-    part-at-rest-end
-    at-rest-requires
-    mul-at-rest
-    sub-at-rest-2
-    part-at-rest-start-2
-    part-at-rest-end-2
-    at-rest-requires-2
+    bus-samples-requires
+    lane-samples-requires
+    add-lane-end
+    mul-lane-resting
+    sub-lane-resting
+    part-lane-resting-start
+    part-lane-resting-end
+    lane-resting-requires
     returns
+    sub-bus-resting
+    part-bus-resting-start
+    part-bus-resting-end
+    bus-resting-requires
     returns-2)

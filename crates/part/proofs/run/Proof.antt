@@ -2,8 +2,8 @@ use mathlib.Core.Path.{refl}
 use borrow.Author.Needs.{needs}
 use Rattle.rate.specs.Rate.{rateOf}
 use Rattle.rate.proofs.Rates.{usable-44100}
-use Rattle.strip.specs.Calls.{state}
-use Rattle.part.proofs.Running.{runs, run-first, run-own, run-end, run-outputs, run-done}
+use Rattle.strip.specs.Kept.{state}
+use Rattle.part.proofs.Running.{runs, run-first, run-own, run-room, run-done}
 use Rattle.part.proofs.run.Statement.{statement}
 use Rattle.part.proofs.run.Tie as tie
 
@@ -45,7 +45,8 @@ go-requires c κs =
     let z = c .before .before .before .before .before .before .if1 .left in
     let f = c .before .before .before .before .before .run-refusal .ensures in
     let y = c .before .before .before .before .if2 .left in
-    (runs (rateOf 44100) st _ e usable-44100 z, (run-end (rateOf 44100) st _ e (s .samples .now) (s .drums) (s .frames .now) (s .gains .now) z _ f y, run-outputs (rateOf 44100) st _ e (s .samples .now) (s .drums) (s .frames .now) (s .gains .now) z _ f y))
+    let room = run-room (rateOf 44100) st _ e (s .samples .now) (s .drums) (s .frames .now) (s .gains .now) z _ f y in
+    (runs (rateOf 44100) st _ e usable-44100 z, (room .end, (room .frames, room .gains)))
 
 same-length-5 : tie.Need-same-length-5
 same-length-5 c = search needs

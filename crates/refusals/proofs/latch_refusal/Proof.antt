@@ -1,4 +1,4 @@
-use Rattle.strip.specs.Refusals.{latchRefusal}
+use Rattle.strip.specs.Calls.{firstOf}
 use mathlib.Core.Path.{sym, _∙_}
 use borrow.Author.Needs.{needs}
 use Rattle.refusals.proofs.latch_refusal.Statement.{statement}
@@ -8,11 +8,11 @@ ok-controls-requires : tie.Need-ok-controls-requires
 ok-controls-requires c κs = search needs
 
 returns : tie.Need-returns
-unfolding latchRefusal
+unfolding firstOf
 returns c = rw (sym (c .before .ok-controls .ensures) ∙ c .if1 .taken)
 
 returns-2 : tie.Need-returns-2
-unfolding latchRefusal
+unfolding firstOf
 returns-2 c = rw (sym (c .before .ok-controls .ensures) ∙ c .if1 .left)
 
 pub latch-refusal-spec : {M : Type 1} → statement M

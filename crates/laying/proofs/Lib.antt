@@ -1,0 +1,3 @@
+-- A list laid so far, and a list laid behind another.
+mod Laid
+pub mod Joined

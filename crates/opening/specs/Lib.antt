@@ -1,2 +1,0 @@
--- What open lays into the stores.
-pub mod Pieces
