@@ -13,7 +13,8 @@ use Rattle.strip.specs.declared.Strip.{Strip}
 use Rattle.strip.specs.declared.Opened.{Opened}
 use Rattle.strip.specs.declared.Outcome.{Outcome}
 use Rattle.strip.specs.declared.Rested.{Rested}
-use Rattle.strip.specs.Calls.{OpenDone, RunDone, state, openCall, runCall, latchCall, restCall}
+use Rattle.strip.specs.Kept.{state}
+use Rattle.strip.specs.Calls.{OpenDone, RunDone, openCall, runCall, latchCall, restCall}
 use Rattle.part.specs.Pieces.{opened, went}
 use Rattle.packing.specs.declared.Unpacked as unpack
 use Rattle.packing.specs.Packing.{roomy, unpacked}

@@ -9,12 +9,15 @@ use lib.ListN.{length, drop}
 use lib.Ieee.{Float}
 use borrow.Author.Tests.{eq-eqb}
 use Rattle.stage.specs.Stage.{ran}
+use Rattle.stage.specs.System.{through, asked}
+use Rattle.stage.proofs.System.{Alike, answers-alike, through-asked}
 use Rattle.rate.specs.declared.Rate.{Rate}
 use Rattle.rate.specs.Rate.{rateOf, RateUsable}
 use Rattle.rate.proofs.Rates.{usable-44100}
 use Rattle.tape.specs.Tape.{Lists}
 use Rattle.strip.specs.declared.Setup.{Setup}
 use Rattle.strip.specs.declared.Controls.{Controls}
+use Rattle.strip.specs.declared.Lane.{Lane}
 use Rattle.strip.specs.declared.Strip as strips
 use Rattle.strip.specs.declared.Opened as opened
 use Rattle.strip.specs.declared.Opened.{Opened}
@@ -22,12 +25,13 @@ use Rattle.strip.specs.declared.Outcome.{Outcome}
 use Rattle.strip.specs.declared.Outcome.the-variants.{Now, Declined}
 use Rattle.strip.specs.declared.Rested as rested
 use Rattle.strip.specs.declared.Rested.{Rested}
-use Rattle.strip.specs.Refusals.{longEnough, runRefusal, latchRefusal, openRefusal}
+use Rattle.strip.specs.Refusals.{longEnough}
 use Rattle.master.specs.Kept.{framesOut, countsOut}
 use Rattle.part.specs.Pieces.{went}
-use Rattle.strip.specs.Calls.{State, state, stepOn, ranOn, heardOn, first, restingOn, OpenDone, RunDone, openedStrip, openedState, openCall, runCall, latchedStrip, latchCall, restCall}
+use Rattle.strip.specs.Kept.{laneStepOn, State, state, stepOn, ranOn, heardOn, openedLane, openedState, laneLatchedOn, latchedStrip, restingOn}
+use Rattle.strip.specs.Calls.{firstOf, openGrounds, runGrounds, latchGrounds, first, OpenDone, RunDone, openCall, runCall, latchCall, restCall}
 use Rattle.strip.specs.Machine.{fresh}
-use Rattle.strip.specs.Promise.{Answer, stripOf, runAnswer, moveAnswer, restAnswer, answerTo, after, through, expected}
+use Rattle.strip.specs.Promise.{stripOf, runAnswer, moveAnswer, restAnswer, answerTo, after, partSystem, machineSystem}
 use Rattle.strip.proofs.Joined.{rest-leaves, answered}
 use Rattle.strip.proofs.Demand3.{joined-of}
 use Rattle.packing.specs.declared.Unpacked as unpack
@@ -36,16 +40,16 @@ use Rattle.packing.specs.Inverse.{Single, ToneSingle, PadSingle, Singles}
 use Rattle.packing.proofs.Inverse.{inverse, flag-is}
 use Rattle.setup.specs.Setup.{numberAt, setupOf, toneOf, padOf, tapeSetupOf}
 use Rattle.goqhari.specs.Library.{Back, back, packedBack, openedBack, outcomeBack, declinedBy, Opening, opening, openDone, libraryOpen, drumming, running, runDone, runFrom, libraryRun, latchFrom, libraryLatch, restedBack, restFrom, libraryRest}
-use Rattle.goqhari.specs.Promise.{LibraryCall, run, latch, rest, callOf, Lent, lent, runSays, latchSays, restSays, answerOf, runLeaves, leftBy, answersOf, openLeaves, EveryLibraryList, LibraryJoinedAt, LibraryDemand3}
+use Rattle.goqhari.specs.Promise.{LibraryCall, run, latch, rest, callOf, Lent, lent, runSays, latchSays, restSays, answerOf, runLeaves, leftBy, librarySystem, openLeaves, EveryLibraryList, LibraryJoinedAt, LibraryDemand3}
 
 -- ---- what an outcome is: a refusal's number is not 0 and hands the strip back; else the setup is kept
 
 abbrev Tells : strips.Strip → Outcome → Type 0
-Tells s (Now t) = t .setup ≡ s .setup
+Tells s (Now t) = t .lane .setup ≡ s .lane .setup
 Tells s (Declined k t) = (eqb k 0 ≡ false) × (t ≡ s)
 
-setup-kept : (r : Rate) (d : Bool) (n : ℕ) (st : State) (xs : List Float) → ran (stepOn r d) n st xs .strip .setup ≡ st .strip .setup
-unfolding ran stepOn
+setup-kept : (r : Rate) (d : Bool) (n : ℕ) (st : State) (xs : List Float) → ran (stepOn r d) n st xs .strip .lane .setup ≡ st .strip .lane .setup
+unfolding ran stepOn laneStepOn
 setup-kept r d n st [] = refl
 setup-kept r d n st (x ∷ xs) = setup-kept r d (n + 1) (stepOn r d n st x .next) xs
 
@@ -56,7 +60,7 @@ run-either s false x y h k = k refl
 run-tells : (r : Rate) (st : State) (xs : List Float) (d : Bool) (frames : List Float) (gains : List ℕ) → Tells (st .strip) (runCall r st xs d frames gains .answer)
 unfolding runCall
 run-tells r st xs d frames gains =
-    let k = first r st (runRefusal (st .strip .position) xs (length frames) (length gains)) in
+    let k = first r st (runGrounds (st .strip .position) xs (length frames) (length gains)) in
     let o = ranOn r d st xs in
     let h = heardOn r d st xs in
     run-either (st .strip) (eqb k 0) (went (Now (o .strip)) (o .store) (o .counts) (framesOut h) (countsOut h)) (went (Declined k (st .strip)) (st .store) (st .counts) frames gains)
@@ -67,20 +71,20 @@ latch-either s true x y h k = h
 latch-either s false x y h k = k refl
 
 latch-tells : (r : Rate) (st : State) (c : Controls) → Tells (st .strip) (latchCall r st c)
-unfolding latchCall latchedStrip
+unfolding latchCall latchedStrip laneLatchedOn
 latch-tells r st c =
-    let k = first r st (latchRefusal c) in
+    let k = first r st (latchGrounds c) in
     latch-either (st .strip) (eqb k 0) (Now (latchedStrip (st .strip) c)) (Declined k (st .strip)) refl (λ e. (e, refl))
 
 -- ---- the memory holds the strip
 
 pub record Holds (m : Lent) (st : State) : Type 0 where
   pub strip : unpacked (m .numbers) (m .words) ≡ unpack.the-variants.Strip (st .strip)
-  pub singles : Singles (st .strip)
+  pub singles : Singles (st .strip .lane)
   pub store : m .store ≡ st .store
   pub counts : m .counts ≡ st .counts
 
-singles-of : (s t : strips.Strip) → t .setup ≡ s .setup → Singles s → Singles t
+singles-of : (s t : Lane) → t .setup ≡ s .setup → Singles s → Singles t
 singles-of s t e h =
     record {
       tone = subst (λ (u : Setup). ToneSingle (u .tape .tone)) (sym e) (h .tone);
@@ -90,19 +94,19 @@ singles-of s t e h =
     }
 
 -- what is written back is read again
-written-back : (s : strips.Strip) → Singles s → (ns : List Float) (ws : List ℕ) → unpacked (packedBack s ns ws .numbers) (packedBack s ns ws .words) ≡ unpack.the-variants.Strip s
+written-back : (s : strips.Strip) → Singles (s .lane) → (ns : List Float) (ws : List ℕ) → unpacked (packedBack s ns ws .numbers) (packedBack s ns ws .words) ≡ unpack.the-variants.Strip s
 unfolding packedBack
 written-back s h ns ws = inverse .back s h (drop (length (packedNumbers s)) ns) (drop (length (packedWords s)) ws)
 
-module _ (s : strips.Strip) (h : Singles s) (ns : List Float) (ws : List ℕ) (e : unpacked ns ws ≡ unpack.the-variants.Strip s) where
+module _ (s : strips.Strip) (h : Singles (s .lane)) (ns : List Float) (ws : List ℕ) (e : unpacked ns ws ≡ unpack.the-variants.Strip s) where
   outcome-read : (o : Outcome) → Tells s o → unpacked (outcomeBack o ns ws .numbers) (outcomeBack o ns ws .words) ≡ unpack.the-variants.Strip (stripOf o)
   unfolding outcomeBack
-  outcome-read (Now t) k = written-back t (singles-of s t k h) ns ws
+  outcome-read (Now t) k = written-back t (singles-of (s .lane) (t .lane) k h) ns ws
   outcome-read (Declined n t) k = e ∙ ap unpack.the-variants.Strip (sym (k .1))
 
-  outcome-singles : (o : Outcome) → Tells s o → Singles (stripOf o)
-  outcome-singles (Now t) k = singles-of s t k h
-  outcome-singles (Declined n t) k = singles-of s t (ap (λ (u : strips.Strip). u .setup) (k .1)) h
+  outcome-singles : (o : Outcome) → Tells s o → Singles (stripOf o .lane)
+  outcome-singles (Now t) k = singles-of (s .lane) (t .lane) k h
+  outcome-singles (Declined n t) k = singles-of (s .lane) (t .lane) (ap (λ (u : strips.Strip). u .lane .setup) (k .1)) h
 
 -- ---- what an answer says
 
@@ -129,7 +133,7 @@ rest-either false x y h k = k refl
 
 rest-refuses : (r : Rate) (st : State) → Refuses (restCall r st)
 unfolding restCall
-rest-refuses r st = let k = first r st 0 in rest-either (eqb k 0) (rested.the-variants.Rests (restingOn r st)) (rested.the-variants.Declined k (st .strip)) tt (λ e. e)
+rest-refuses r st = let k = first r st [] in rest-either (eqb k 0) (rested.the-variants.Rests (restingOn r st)) (rested.the-variants.Declined k (st .strip)) tt (λ e. e)
 
 rest-said : (a : Rested) → Refuses a → (was : ℕ) → restSays (restedBack a (was ∷ [])) ≡ restAnswer a
 unfolding restSays restedBack
@@ -190,16 +194,15 @@ module _ (r : Rate) (m : Lent) (st : State) (h : Holds m st) where
 
 -- ---- a list of calls
 
-answers-are : (r : Rate) (m : Lent) (st : State) → Holds m st → (cs : List LibraryCall) → answersOf r m cs ≡ through r st (map callOf cs)
-unfolding answersOf through
-answers-are r m st h [] = refl
-answers-are r m st h (c ∷ cs) =
-    ap (λ (a : Answer). a ∷ answersOf r (leftBy r m c) cs) (answer-is r m st h c)
-    ∙ ap (λ (l : List Answer). answerTo r st (callOf c) ∷ l) (answers-are r (leftBy r m c) (after r st (callOf c)) (left-holds r m st h c) cs)
+library-alike : (r : Rate) → Alike Holds (librarySystem r) (asked callOf (partSystem r))
+library-alike r = record { same = λ m st c h. answer-is r m st h c; keeps = λ m st c h. left-holds r m st h c }
+
+answers-are : (r : Rate) (m : Lent) (st : State) → Holds m st → (cs : List LibraryCall) → through (librarySystem r) m cs ≡ through (partSystem r) st (map callOf cs)
+answers-are r m st h cs = answers-alike Holds (librarySystem r) (asked callOf (partSystem r)) (library-alike r) m st cs h ∙ through-asked callOf (partSystem r) st cs
 
 -- ---- open
 
-setup-singles : (singles doubles : List Float) (flags : ℕ) → ((k : ℕ) → Single (numberAt singles k)) → (s : strips.Strip) → s .setup ≡ setupOf singles doubles flags → Singles s
+setup-singles : (singles doubles : List Float) (flags : ℕ) → ((k : ℕ) → Single (numberAt singles k)) → (s : Lane) → s .setup ≡ setupOf singles doubles flags → Singles s
 unfolding setupOf tapeSetupOf toneOf padOf
 setup-singles singles doubles flags f s e =
     record {
@@ -221,11 +224,11 @@ setup-singles singles doubles flags f s e =
 pub record Opens (r : Rate) (s : Setup) (l : Lists) (ns : List Float) (ws : List ℕ) (store : List Float) (counts : List ℕ) (o : Opening) : Type 0 where
   pub strip : strips.Strip
   pub answer : openCall r s l store counts .answer ≡ opened.the-variants.Strip strip
-  pub setup : strip .setup ≡ s
+  pub setup : strip .lane .setup ≡ s
   pub memory : openLeaves o ≡ lent (packedBack strip ns ws .numbers) (packedBack strip ns ws .words) (openCall r s l store counts .store) (openCall r s l store counts .counts)
 
 abbrev Gives : Setup → Opened → Type 0
-Gives s (opened.the-variants.Strip t) = t .setup ≡ s
+Gives s (opened.the-variants.Strip t) = t .lane .setup ≡ s
 Gives s (opened.the-variants.Refused k) = eqb k 0 ≡ false
 
 open-either : (s : Setup) (b : Bool) (x y : OpenDone) → Gives s (x .answer) → (b ≡ false → Gives s (y .answer)) → Gives s (cond b x y .answer)
@@ -233,9 +236,9 @@ open-either s true x y h k = h
 open-either s false x y h k = k refl
 
 open-gives : (r : Rate) (s : Setup) (l : Lists) (store : List Float) (counts : List ℕ) → Gives s (openCall r s l store counts .answer)
-unfolding openCall openedState openedStrip
+unfolding openCall openedState openedLane
 open-gives r s l store counts =
-    let k = openRefusal r s l store counts in
+    let k = firstOf (openGrounds r s l store counts) in
     let o = openedState r s l store counts in
     open-either s (eqb k 0)
     (record { answer = opened.the-variants.Strip (o .strip); store = o .store; counts = o .counts })
@@ -269,13 +272,13 @@ module _ (r : Rate) (s : Setup) (l : Lists) (ns : List Float) (ws : List ℕ) (s
   opens-by true false z = absurd (declined-not (longEnough r store counts) z)
   opens-by false b z = let y : _≡_ {A = ℕ} 1 0 = z in absurd (omega (arith, y))
 
-pub library-answers : (r : Rate) → RateUsable r → EveryLibraryList r (λ s l cs answers. answers ≡ expected r (fresh r s l) cs)
+pub library-answers : (r : Rate) → RateUsable r → EveryLibraryList r (λ s l cs answers. answers ≡ through (machineSystem r) (fresh r s l) cs)
 unfolding libraryOpen
 library-answers r u singles doubles flags l ns ws store counts f z cs =
     let s = setupOf singles doubles flags in
     let o = opens-by r s l ns ws store counts (roomy ns ws) (leb flags 15) z in
-    let h = setup-singles singles doubles flags f (o .strip) (o .setup) in
-    ap (λ (m : Lent). answersOf r m cs) (o .memory)
+    let h = setup-singles singles doubles flags f (o .strip .lane) (o .setup) in
+    ap (λ (m : Lent). through (librarySystem r) m cs) (o .memory)
     ∙ answers-are r _ (state (o .strip) (openCall r s l store counts .store) (openCall r s l store counts .counts)) (record { strip = written-back (o .strip) h ns ws; singles = h; store = refl; counts = refl }) cs
     ∙ answered r u s l store counts (o .strip) (o .answer) (map callOf cs)
 

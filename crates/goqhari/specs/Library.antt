@@ -6,6 +6,7 @@ use mathlib.Core.List.{List}
 use lib.Dec.{leb, eqb}
 use lib.ListN.{set}
 use lib.Ieee.{Float}
+use Rattle.stage.specs.Stage.{over}
 use Rattle.rate.specs.declared.Rate.{Rate}
 use Rattle.tape.specs.Tape.{Lists}
 use Rattle.strip.specs.declared.Controls.{Controls}
@@ -17,8 +18,8 @@ use Rattle.strip.specs.declared.Outcome.the-variants.{Now, Declined}
 use Rattle.strip.specs.declared.Rested as rested
 use Rattle.strip.specs.declared.Rested.{Rested}
 use Rattle.strip.specs.Refusals.{longEnough}
-use Rattle.strip.specs.Calls.{OpenDone, RunDone, state, openCall, runCall, latchCall, restCall}
-use Rattle.opening.specs.Pieces.{over}
+use Rattle.strip.specs.Kept.{state}
+use Rattle.strip.specs.Calls.{OpenDone, RunDone, openCall, runCall, latchCall, restCall}
 use Rattle.packing.specs.declared.Unpacked as unpack
 use Rattle.packing.specs.declared.Unpacked.{Unpacked}
 use Rattle.packing.specs.Packing.{flagged, packedNumbers, packedWords, roomy, unpacked}

@@ -7,6 +7,7 @@ use mathlib.Core.List.{List, [], _∷_, map}
 use lib.Dec.{eqb}
 use lib.ListN.{getD}
 use lib.Ieee.{Float}
+use Rattle.stage.specs.System.{System, through}
 use Rattle.rate.specs.declared.Rate.{Rate}
 use Rattle.rate.specs.Rate.{rateOf}
 use Rattle.tape.specs.Tape.{Lists}
@@ -68,9 +69,9 @@ leftBy r m (run xs drums frames gains) = runLeaves (libraryRun r (m .numbers) (m
 leftBy r m (latch c) = let b = libraryLatch r (m .numbers) (m .words) c (m .store) (m .counts) in lent (b .numbers) (b .words) (m .store) (m .counts)
 leftBy r m (rest was) = m
 
-unfoldable pub answersOf : Rate → Lent → List LibraryCall → List Answer
-answersOf r m [] = []
-answersOf r m (c ∷ cs) = answerOf r m c ∷ answersOf r (leftBy r m c) cs
+-- the library, which answers calls on lent memory
+abbrev pub librarySystem : Rate → System Lent LibraryCall Answer
+librarySystem r = record { answer = answerOf r; next = leftBy r }
 
 abbrev pub openLeaves : Opening → Lent
 openLeaves o = lent (o .back .numbers) (o .back .words) (o .store) (o .counts)
@@ -83,7 +84,7 @@ EveryLibraryList r P =
     (singles doubles : List Float) (flags : ℕ) (l : Lists) (ns : List Float) (ws : List ℕ) (store : List Float) (counts : List ℕ)
     → ((k : ℕ) → Single (numberAt singles k))
     → libraryOpen r singles doubles flags l ns ws store counts .back .answer ≡ 0
-    → (cs : List LibraryCall) → P (setupOf singles doubles flags) l (map callOf cs) (answersOf r (openLeaves (libraryOpen r singles doubles flags l ns ws store counts)) cs)
+    → (cs : List LibraryCall) → P (setupOf singles doubles flags) l (map callOf cs) (through (librarySystem r) (openLeaves (libraryOpen r singles doubles flags l ns ws store counts)) cs)
 
 unfoldable pub LibraryJoinedAt : Rate → Type 0
 LibraryJoinedAt r = EveryLibraryList r (Joined r)

@@ -1,11 +1,11 @@
 // The four calls for C (include/goqhari.h): `rt staticlib goqhari` builds the library from them. The strip stands packed in two lists that the caller lends.
 // No call has a `requires`, and each contract is the Rattle call's through the packing (specs/Library.antt).
-// Uses part for the calls, packing for the strip, refusals for 1, opening to lay a list, setup for the setup.
+// Uses part for the calls, packing for the strip, refusals for 1, setup for the setup.
 ghost use mathlib.Core.Path.{_≡_};
 ghost use Prim.Native.Nat.{_≤_};
 ghost use lib.ListN.{length};
 ghost use Rattle.rate.specs.Rate.{rateOf};
-ghost use Rattle.refusals.specs.Pieces.{listsOf};
+ghost use Rattle.strip.specs.Kept.{listsOf};
 ghost use Rattle.packing.specs.Packing.{numbersLong, wordsLong};
 ghost use Rattle.goqhari.specs.Library.{back, packedBack, openedBack, outcomeBack, declinedBy, opening, libraryOpen, drumming, running, libraryRun, controls, libraryLatch, resting, restedBack, libraryRest};
 use packing::Unpacked;
@@ -33,10 +33,7 @@ fn kept(strip: Strip, numbers: &mut [f64], words: &mut [u64]) -> u64
     requires { ⌜ (numbersLong ≤ length (now numbers)) × (wordsLong ≤ length (now words)) ⌝ }
     ensures { λ r. ⌜ back r (now (numbers .exit)) (now (words .exit)) ≡ packedBack strip (now (numbers .entry)) (now (words .entry)) ⌝ }
 {
-    let packed = packing::numbers_of(strip);
-    let marked = packing::words_of(strip);
-    opening::laying::lay_values(&packed, numbers);
-    opening::laying::lay_positions(&marked, words);
+    packing::pack(strip, numbers, words);
     0
 }
 

@@ -1,15 +1,21 @@
--- The room that a strip which was read back has. Assumes nothing.
-use mathlib.Core.Path.{_≡_, refl}
+-- What stands from a place on, and the room that a strip which was read back has. Assumes nothing.
+use mathlib.Core.Path.{_≡_, refl, sym, ap, _∙_}
 use native.Mathlib.Omega.{arith}
 use mathlib.Core.Bool.{Bool, true, false, cond, and-eq-true-iff}
 use mathlib.Core.List.{List}
-use Prim.Native.Nat.{ℕ, _≤_}
-use lib.ListN.{length}
+use Prim.Native.Nat.{ℕ, _-_, _≤_}
+use lib.ListN.{length, take, drop, length-drop}
+use lib.Seq.{take-length}
 use lib.Ieee.{Float}
 use borrow.Author.Tests.{leb-true}
 use Rattle.strip.specs.declared.Strip.{Strip}
 use Rattle.packing.specs.declared.Unpacked as unpack
-use Rattle.packing.specs.Packing.{numbersLong, wordsLong, roomy, unpackable, stripFrom, unpacked}
+use Rattle.packing.specs.Packing.{Behind, numbersLong, wordsLong, roomy, unpackable, stripFrom, unpacked}
+
+pub behind : {X : Type 0} (k : ℕ) (l : List X) → k ≤ length l → Behind k l (take (length l - k) (drop k l))
+behind {X} k l h =
+    let e : take (length l - k) (drop k l) ≡ drop k l = ap (λ (n : ℕ). take n (drop k l)) (sym (length-drop k l)) ∙ take-length (drop k l) in
+    record { is = e; long = rw (e, length-drop) (omega arith) }
 
 module _ (ns : List Float) (ws : List ℕ) where
   pub room : roomy ns ws ≡ true → (numbersLong ≤ length ns) × (wordsLong ≤ length ws)

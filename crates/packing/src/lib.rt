@@ -1,9 +1,14 @@
-// A strip as numbers and words: what a caller of the C library lends a strip's memory as. specs/Packing.antt has each place;
-// what was packed is read back (proofs/Inverse.antt). Uses casts, the crates of the stages and strip for their types, and setup for one definition.
+// A strip as numbers and words: what a caller of the C library lends a strip's memory as. specs/Packing.antt has each part's places,
+// counted from its own start; what was packed is read back (proofs/Inverse.antt).
+// Uses casts, the crates of the stages and strip for their types, setup for one definition, and laying to lay a list.
 ghost use mathlib.Core.Path.{_≡_};
-ghost use Prim.Native.Nat.{_+_, _≤_};
+ghost use mathlib.Core.Bool.{_&&_};
+ghost use mathlib.Core.List.{[], _∷_};
+ghost use Prim.Native.Nat.{_≤_};
 ghost use lib.ListN.{length};
-ghost use Rattle.packing.specs.Packing.{numbersLong, wordsLong, toneNumbers, toneTag, padNumbers, padTag, shapeTag, flagged, packedNumbers, packedWords, roomy, isShort, bothShort, toneFits, padFits, shortsFit, wordsFit, unpackable, toneAt, padAt, shapeOf, flagOf, sectionFrom, lowpassFrom, onePoleFrom, rampFrom, setupFrom, tapeFrom, plateFrom, ceilingFrom, stripFrom, unpacked};
+ghost use Rattle.stage.specs.Stage.{over};
+ghost use Rattle.setup.specs.Setup.{numberAt};
+ghost use Rattle.packing.specs.Packing.{Behind, flagged, flagOf, shapeTag, shapeOf, onePoleLong, onePoleFrom, sectionLong, sectionFrom, lowpassLong, lowpassFrom, rampNumbersLong, rampWordsLong, rampFrom, rampFits, isShort, bothShort, toneLong, toneNumbers, toneTag, toneFrom, toneFits, padLong, padNumbers, padTag, padFrom, padFits, setupNumbersLong, setupWordsLong, setupFrom, flagsFit, setupFits, equalizerLong, equalizerFrom, tapeNumbersLong, tapeWordsLong, duckFrom, tapeFrom, laneNumbersLong, laneWordsLong, laneNumbers, laneWords, laneFrom, laneFits, busNumbersLong, busWordsLong, plateFrom, busNumbers, busWords, busFrom, numbersLong, wordsLong, packedNumbers, packedWords, roomy, unpackable, stripFrom, unpacked};
 use automation::Tone;
 use biquad::Lowpass;
 use biquad::Section;
@@ -15,16 +20,74 @@ use plate::Plate;
 use plate::Tank;
 use ramp::Ramp;
 use ramp::Shape;
+use strip::Bus;
+use strip::Lane;
 use strip::Setup;
 use strip::Strip;
 use tape::Equalizer;
 use tape::Tape;
 use tape::TapeSetup;
 
-// How many numbers and how many words a strip is.
-const NUMBERS: usize = 87;
+// How many numbers and how many words each part has, and where a part stands in the next larger one.
+const ONE_POLE: usize = 2;
 
-const WORDS: usize = 19;
+const SECTION: usize = 9;
+
+const LOWPASS: usize = SECTION + SECTION;
+
+const RAMP_NUMBERS: usize = 2;
+
+const RAMP_WORDS: usize = 3;
+
+const TONE: usize = 4;
+
+const PAD: usize = 2;
+
+const SETUP_NUMBERS: usize = TONE + PAD + 5;
+
+const SETUP_WORDS: usize = 4;
+
+const TILT_AT: usize = SECTION + LOWPASS;
+
+const EQUALIZER: usize = TILT_AT + ONE_POLE;
+
+const TUNING_AT: usize = LOWPASS + EQUALIZER;
+
+const TAPE_NUMBERS: usize = TUNING_AT + 2;
+
+const TAPE_WORDS: usize = 4;
+
+const RAIN_AT: usize = SETUP_NUMBERS + RAMP_NUMBERS;
+
+const TAPE_AT: usize = RAIN_AT + RAMP_NUMBERS;
+
+const LANE_NUMBERS: usize = TAPE_AT + TAPE_NUMBERS;
+
+const DAYLIGHT_WORDS_AT: usize = SETUP_WORDS + 1;
+
+const RAIN_WORDS_AT: usize = DAYLIGHT_WORDS_AT + RAMP_WORDS;
+
+const TAPE_WORDS_AT: usize = RAIN_WORDS_AT + RAMP_WORDS;
+
+const LANE_WORDS: usize = TAPE_WORDS_AT + TAPE_WORDS;
+
+const LEFT_AT: usize = ONE_POLE + ONE_POLE;
+
+const RIGHT_AT: usize = LEFT_AT + SECTION;
+
+const RELEASED_AT: usize = RIGHT_AT + SECTION;
+
+const BUS_NUMBERS: usize = RELEASED_AT + 1;
+
+const BUS_WORDS: usize = 3;
+
+const NUMBERS: usize = BUS_NUMBERS + LANE_NUMBERS;
+
+const OWN_WORDS: usize = 1;
+
+const LANE_WORDS_AT: usize = OWN_WORDS + BUS_WORDS;
+
+const WORDS: usize = LANE_WORDS_AT + LANE_WORDS;
 
 // A strip; no strip, where a tag, a bool or an f32 is none; or too few numbers or words.
 pub enum Unpacked {
@@ -33,10 +96,143 @@ pub enum Unpacked {
     Short,
 }
 
-// ---- packing
+// ---- tags, bools and counts as words, and back
 
-fn tone_numbers(tone: Tone) -> [f64; 4]
-    ensures { λ r. ⌜ r ≡ toneNumbers tone ⌝ }
+// 1 for true.
+pub fn flagged(flag: bool) -> u64
+    ensures { λ r. ⌜ r ≡ flagged flag ⌝ }
+{
+    if flag {
+        return 1;
+    }
+    0
+}
+
+fn flag_of(w: u64) -> bool
+    ensures { λ r. ⌜ r ≡ flagOf w ⌝ }
+{
+    w != 0
+}
+
+// Both are looked at: of a packed strip every test holds.
+fn both(a: bool, b: bool) -> bool
+    ensures { λ r. ⌜ r ≡ a && b ⌝ }
+{
+    if a {
+        return b;
+    }
+    false
+}
+
+fn word_of(n: usize) -> u64
+    ensures { λ r. ⌜ r ≡ n ⌝ }
+{
+    n as u64
+}
+
+fn size_of(w: u64) -> usize
+    ensures { λ r. ⌜ r ≡ w ⌝ }
+{
+    w as usize
+}
+
+fn shape_tag(shape: Shape) -> u64
+    ensures { λ r. ⌜ r ≡ shapeTag shape ⌝ }
+{
+    match shape {
+        Shape::Linear => 0,
+        Shape::Db => 1,
+    }
+}
+
+fn shape_of(tag: u64) -> Shape
+    ensures { λ r. ⌜ r ≡ shapeOf tag ⌝ }
+{
+    if tag == 0 {
+        return Shape::Linear;
+    }
+    Shape::Db
+}
+
+// ---- what stands from a place on
+
+fn numbers_from(numbers: &[f64], k: usize) -> &[f64]
+    requires { ⌜ k ≤ length (now numbers) ⌝ }
+    ensures { λ r. ⌜ Behind k (now (numbers .entry)) (now r) ⌝ }
+{
+    &numbers[k..]
+}
+
+fn words_from(words: &[u64], k: usize) -> &[u64]
+    requires { ⌜ k ≤ length (now words) ⌝ }
+    ensures { λ r. ⌜ Behind k (now (words .entry)) (now r) ⌝ }
+{
+    &words[k..]
+}
+
+// ---- a one-pole, a section, two sections, and a ramp
+
+fn one_pole_from(numbers: &[f64]) -> OnePole
+    requires { ⌜ onePoleLong ≤ length (now numbers) ⌝ }
+    ensures { λ r. ⌜ r ≡ onePoleFrom (now (numbers .entry)) ⌝ }
+{
+    OnePole {
+        pole: numbers[0],
+        y: numbers[1],
+    }
+}
+
+fn section_from(numbers: &[f64]) -> Section
+    requires { ⌜ sectionLong ≤ length (now numbers) ⌝ }
+    ensures { λ r. ⌜ r ≡ sectionFrom (now (numbers .entry)) ⌝ }
+{
+    Section {
+        b0: numbers[0],
+        b1: numbers[1],
+        b2: numbers[2],
+        a1: numbers[3],
+        a2: numbers[4],
+        x1: numbers[5],
+        x2: numbers[6],
+        y1: numbers[7],
+        y2: numbers[8],
+    }
+}
+
+fn lowpass_from(numbers: &[f64]) -> Lowpass
+    requires { ⌜ lowpassLong ≤ length (now numbers) ⌝ }
+    ensures { λ r. ⌜ r ≡ lowpassFrom (now (numbers .entry)) ⌝ }
+{
+    let first = section_from(numbers);
+    let second = section_from(numbers_from(numbers, SECTION));
+    Lowpass { first, second }
+}
+
+fn ramp_from(numbers: &[f64], words: &[u64]) -> Ramp
+    requires { ⌜ (rampNumbersLong ≤ length (now numbers)) × (rampWordsLong ≤ length (now words)) ⌝ }
+    ensures { λ r. ⌜ r ≡ rampFrom (now (numbers .entry)) (now (words .entry)) ⌝ }
+{
+    let shape = shape_of(words[2]);
+    Ramp {
+        from: numbers[0],
+        to: numbers[1],
+        start: words[0],
+        len: words[1],
+        shape,
+    }
+}
+
+fn ramp_fits(words: &[u64]) -> bool
+    requires { ⌜ rampWordsLong ≤ length (now words) ⌝ }
+    ensures { λ r. ⌜ r ≡ rampFits (now (words .entry)) ⌝ }
+{
+    words[2] <= 1
+}
+
+// ---- a tone and a pad
+
+fn tone_numbers(tone: Tone) -> [f64; TONE]
+    ensures { λ r. ⌜ toneNumbers tone ≡ numberAt r 0 ∷ numberAt r 1 ∷ numberAt r 2 ∷ numberAt r 3 ∷ [] ⌝ }
 {
     match tone {
         Tone::Fixed { corner, drive } => [casts::widen(corner), drive, 0.0, 0.0],
@@ -71,8 +267,27 @@ fn tone_tag(tone: Tone) -> u64
     }
 }
 
-fn pad_numbers(pad: Pad) -> [f64; 2]
-    ensures { λ r. ⌜ r ≡ padNumbers pad ⌝ }
+fn tone_from(numbers: &[f64], tag: u64) -> Tone
+    requires { ⌜ toneLong ≤ length (now numbers) ⌝ }
+    ensures { λ r. ⌜ r ≡ toneFrom (now (numbers .entry)) tag ⌝ }
+{
+    let corner = casts::narrow(numbers[0]);
+    if tag == 0 {
+        return Tone::Fixed {
+            corner,
+            drive: numbers[1],
+        };
+    }
+    Tone::Graded {
+        night_corner: corner,
+        day_corner: casts::narrow(numbers[1]),
+        night_drive: casts::narrow(numbers[2]),
+        day_drive: casts::narrow(numbers[3]),
+    }
+}
+
+fn pad_numbers(pad: Pad) -> [f64; PAD]
+    ensures { λ r. ⌜ padNumbers pad ≡ numberAt r 0 ∷ numberAt r 1 ∷ [] ⌝ }
 {
     match pad {
         Pad::Without => [0.0, 0.0],
@@ -89,177 +304,20 @@ fn pad_tag(pad: Pad) -> u64
     }
 }
 
-fn shape_tag(shape: Shape) -> u64
-    ensures { λ r. ⌜ r ≡ shapeTag shape ⌝ }
+fn pad_from(numbers: &[f64], tag: u64) -> Pad
+    requires { ⌜ padLong ≤ length (now numbers) ⌝ }
+    ensures { λ r. ⌜ r ≡ padFrom (now (numbers .entry)) tag ⌝ }
 {
-    match shape {
-        Shape::Linear => 0,
-        Shape::Db => 1,
+    if tag == 0 {
+        return Pad::Without;
+    }
+    Pad::Swell {
+        hz: casts::narrow(numbers[0]),
+        depth: casts::narrow(numbers[1]),
     }
 }
 
-// 1 for true.
-pub fn flagged(flag: bool) -> u64
-    ensures { λ r. ⌜ r ≡ flagged flag ⌝ }
-{
-    if flag {
-        return 1;
-    }
-    0
-}
-
-fn word_of(n: usize) -> u64
-    ensures { λ r. ⌜ r ≡ n ⌝ }
-{
-    n as u64
-}
-
-pub fn numbers_of(s: Strip) -> [f64; 87]
-    ensures { λ r. ⌜ r ≡ packedNumbers s ⌝ }
-{
-    let setup = s.setup;
-    let tape = setup.tape;
-    let tone = tape.tone;
-    let pad = tape.pad;
-    let t = tone_numbers(tone);
-    let p = pad_numbers(pad);
-    let daylight = casts::widen(s.setup.daylight);
-    let rain = casts::widen(s.setup.rain);
-    [
-        t[0],
-        t[1],
-        t[2],
-        t[3],
-        p[0],
-        p[1],
-        s.setup.tape.input,
-        s.setup.tape.output,
-        daylight,
-        rain,
-        s.setup.send,
-        s.daylight.from,
-        s.daylight.to,
-        s.rain.from,
-        s.rain.to,
-        s.tape.tone.first.b0,
-        s.tape.tone.first.b1,
-        s.tape.tone.first.b2,
-        s.tape.tone.first.a1,
-        s.tape.tone.first.a2,
-        s.tape.tone.first.x1,
-        s.tape.tone.first.x2,
-        s.tape.tone.first.y1,
-        s.tape.tone.first.y2,
-        s.tape.tone.second.b0,
-        s.tape.tone.second.b1,
-        s.tape.tone.second.b2,
-        s.tape.tone.second.a1,
-        s.tape.tone.second.a2,
-        s.tape.tone.second.x1,
-        s.tape.tone.second.x2,
-        s.tape.tone.second.y1,
-        s.tape.tone.second.y2,
-        s.tape.equalizer.bump.b0,
-        s.tape.equalizer.bump.b1,
-        s.tape.equalizer.bump.b2,
-        s.tape.equalizer.bump.a1,
-        s.tape.equalizer.bump.a2,
-        s.tape.equalizer.bump.x1,
-        s.tape.equalizer.bump.x2,
-        s.tape.equalizer.bump.y1,
-        s.tape.equalizer.bump.y2,
-        s.tape.equalizer.rolloff.first.b0,
-        s.tape.equalizer.rolloff.first.b1,
-        s.tape.equalizer.rolloff.first.b2,
-        s.tape.equalizer.rolloff.first.a1,
-        s.tape.equalizer.rolloff.first.a2,
-        s.tape.equalizer.rolloff.first.x1,
-        s.tape.equalizer.rolloff.first.x2,
-        s.tape.equalizer.rolloff.first.y1,
-        s.tape.equalizer.rolloff.first.y2,
-        s.tape.equalizer.rolloff.second.b0,
-        s.tape.equalizer.rolloff.second.b1,
-        s.tape.equalizer.rolloff.second.b2,
-        s.tape.equalizer.rolloff.second.a1,
-        s.tape.equalizer.rolloff.second.a2,
-        s.tape.equalizer.rolloff.second.x1,
-        s.tape.equalizer.rolloff.second.x2,
-        s.tape.equalizer.rolloff.second.y1,
-        s.tape.equalizer.rolloff.second.y2,
-        s.tape.equalizer.tilt.pole,
-        s.tape.equalizer.tilt.y,
-        s.plate.tank.left.pole,
-        s.plate.tank.left.y,
-        s.plate.tank.right.pole,
-        s.plate.tank.right.y,
-        s.plate.left.b0,
-        s.plate.left.b1,
-        s.plate.left.b2,
-        s.plate.left.a1,
-        s.plate.left.a2,
-        s.plate.left.x1,
-        s.plate.left.x2,
-        s.plate.left.y1,
-        s.plate.left.y2,
-        s.plate.right.b0,
-        s.plate.right.b1,
-        s.plate.right.b2,
-        s.plate.right.a1,
-        s.plate.right.a2,
-        s.plate.right.x1,
-        s.plate.right.x2,
-        s.plate.right.y1,
-        s.plate.right.y2,
-        s.ceiling.released,
-        s.tape.drive,
-        s.tape.top,
-    ]
-}
-
-pub fn words_of(s: Strip) -> [u64; 19]
-    ensures { λ r. ⌜ r ≡ packedWords s ⌝ }
-{
-    let setup = s.setup;
-    let tape = setup.tape;
-    let tone = tape.tone;
-    let pad = tape.pad;
-    let daylight = s.daylight;
-    let rain = s.rain;
-    let daylight_shape = daylight.shape;
-    let rain_shape = rain.shape;
-    [
-        s.position,
-        tone_tag(tone),
-        pad_tag(pad),
-        flagged(s.setup.tape.darkened),
-        flagged(s.setup.tape.ducked),
-        word_of(s.points),
-        s.daylight.start,
-        s.daylight.len,
-        shape_tag(daylight_shape),
-        s.rain.start,
-        s.rain.len,
-        shape_tag(rain_shape),
-        word_of(s.tape.duck.count),
-        word_of(s.tape.duck.reached),
-        word_of(s.tape.duck.ducking),
-        s.ceiling.count,
-        word_of(s.ceiling.head),
-        word_of(s.ceiling.len),
-        s.tape.until,
-    ]
-}
-
-// ---- what can be read back
-
-pub fn roomy(numbers: &[f64], words: &[u64]) -> bool
-    ensures { λ r. ⌜ r ≡ roomy (now (numbers .entry)) (now (words .entry)) ⌝ }
-{
-    if numbers.len() < NUMBERS {
-        return false;
-    }
-    WORDS <= words.len()
-}
+// ---- which numbers are an f32's
 
 // Nearly all have the field of a normal f32 and no digit below an f32's.
 fn is_short(x: f64) -> bool
@@ -278,202 +336,54 @@ fn is_short(x: f64) -> bool
     casts::bits_of_f64(y) == bits
 }
 
-fn both_short(numbers: &[f64], k: usize) -> bool
-    requires { ⌜ k + 2 ≤ length (now numbers) ⌝ }
-    ensures { λ r. ⌜ r ≡ bothShort (now (numbers .entry)) k ⌝ }
+fn both_short(numbers: &[f64]) -> bool
+    requires { ⌜ 2 ≤ length (now numbers) ⌝ }
+    ensures { λ r. ⌜ r ≡ bothShort (now (numbers .entry)) ⌝ }
 {
-    if !is_short(numbers[k]) {
-        return false;
-    }
-    is_short(numbers[k + 1])
+    both(is_short(numbers[0]), is_short(numbers[1]))
 }
 
 fn tone_fits(numbers: &[f64], tag: u64) -> bool
-    requires { ⌜ numbersLong ≤ length (now numbers) ⌝ }
+    requires { ⌜ toneLong ≤ length (now numbers) ⌝ }
     ensures { λ r. ⌜ r ≡ toneFits (now (numbers .entry)) tag ⌝ }
 {
     if tag == 0 {
-        return true;
+        return is_short(numbers[0]);
     }
-    if tag != 1 {
-        return false;
+    if tag == 1 {
+        return both(both_short(numbers), both_short(numbers_from(numbers, 2)));
     }
-    if !is_short(numbers[1]) {
-        return false;
-    }
-    both_short(numbers, 2)
+    false
 }
 
 fn pad_fits(numbers: &[f64], tag: u64) -> bool
-    requires { ⌜ numbersLong ≤ length (now numbers) ⌝ }
+    requires { ⌜ padLong ≤ length (now numbers) ⌝ }
     ensures { λ r. ⌜ r ≡ padFits (now (numbers .entry)) tag ⌝ }
 {
     if tag == 0 {
         return true;
     }
     if tag == 1 {
-        return both_short(numbers, 4);
+        return both_short(numbers);
     }
     false
 }
 
-fn shorts_fit(numbers: &[f64]) -> bool
-    requires { ⌜ numbersLong ≤ length (now numbers) ⌝ }
-    ensures { λ r. ⌜ r ≡ shortsFit (now (numbers .entry)) ⌝ }
-{
-    if !is_short(numbers[0]) {
-        return false;
-    }
-    both_short(numbers, 8)
-}
-
-fn words_fit(words: &[u64]) -> bool
-    requires { ⌜ wordsLong ≤ length (now words) ⌝ }
-    ensures { λ r. ⌜ r ≡ wordsFit (now (words .entry)) ⌝ }
-{
-    if 1 < words[3] {
-        return false;
-    }
-    if 1 < words[4] {
-        return false;
-    }
-    if 1 < words[8] {
-        return false;
-    }
-    words[11] <= 1
-}
-
-fn unpackable(numbers: &[f64], words: &[u64]) -> bool
-    requires { ⌜ (numbersLong ≤ length (now numbers)) × (wordsLong ≤ length (now words)) ⌝ }
-    ensures { λ r. ⌜ r ≡ unpackable (now (numbers .entry)) (now (words .entry)) ⌝ }
-{
-    if !shorts_fit(numbers) {
-        return false;
-    }
-    if !tone_fits(numbers, words[1]) {
-        return false;
-    }
-    if !pad_fits(numbers, words[2]) {
-        return false;
-    }
-    words_fit(words)
-}
-
-// ---- reading back
-
-fn tone_at(numbers: &[f64], tag: u64) -> Tone
-    requires { ⌜ numbersLong ≤ length (now numbers) ⌝ }
-    ensures { λ r. ⌜ r ≡ toneAt (now (numbers .entry)) tag ⌝ }
-{
-    let corner = casts::narrow(numbers[0]);
-    if tag == 0 {
-        return Tone::Fixed {
-            corner,
-            drive: numbers[1],
-        };
-    }
-    Tone::Graded {
-        night_corner: corner,
-        day_corner: casts::narrow(numbers[1]),
-        night_drive: casts::narrow(numbers[2]),
-        day_drive: casts::narrow(numbers[3]),
-    }
-}
-
-fn pad_at(numbers: &[f64], tag: u64) -> Pad
-    requires { ⌜ numbersLong ≤ length (now numbers) ⌝ }
-    ensures { λ r. ⌜ r ≡ padAt (now (numbers .entry)) tag ⌝ }
-{
-    if tag == 0 {
-        return Pad::Without;
-    }
-    Pad::Swell {
-        hz: casts::narrow(numbers[4]),
-        depth: casts::narrow(numbers[5]),
-    }
-}
-
-fn shape_of(tag: u64) -> Shape
-    ensures { λ r. ⌜ r ≡ shapeOf tag ⌝ }
-{
-    if tag == 0 {
-        return Shape::Linear;
-    }
-    Shape::Db
-}
-
-fn flag_of(w: u64) -> bool
-    ensures { λ r. ⌜ r ≡ flagOf w ⌝ }
-{
-    if w == 0 {
-        return false;
-    }
-    true
-}
-
-fn section_from(numbers: &[f64], k: usize) -> Section
-    requires { ⌜ k + 9 ≤ length (now numbers) ⌝ }
-    ensures { λ r. ⌜ r ≡ sectionFrom (now (numbers .entry)) k ⌝ }
-{
-    Section {
-        b0: numbers[k],
-        b1: numbers[k + 1],
-        b2: numbers[k + 2],
-        a1: numbers[k + 3],
-        a2: numbers[k + 4],
-        x1: numbers[k + 5],
-        x2: numbers[k + 6],
-        y1: numbers[k + 7],
-        y2: numbers[k + 8],
-    }
-}
-
-fn lowpass_from(numbers: &[f64], k: usize) -> Lowpass
-    requires { ⌜ k + 18 ≤ length (now numbers) ⌝ }
-    ensures { λ r. ⌜ r ≡ lowpassFrom (now (numbers .entry)) k ⌝ }
-{
-    let first = section_from(numbers, k);
-    let second = section_from(numbers, k + 9);
-    Lowpass { first, second }
-}
-
-fn one_pole_from(numbers: &[f64], k: usize) -> OnePole
-    requires { ⌜ k + 2 ≤ length (now numbers) ⌝ }
-    ensures { λ r. ⌜ r ≡ onePoleFrom (now (numbers .entry)) k ⌝ }
-{
-    OnePole {
-        pole: numbers[k],
-        y: numbers[k + 1],
-    }
-}
-
-fn ramp_from(numbers: &[f64], words: &[u64], k: usize, j: usize) -> Ramp
-    requires { ⌜ (k + 2 ≤ length (now numbers)) × (j + 3 ≤ length (now words)) ⌝ }
-    ensures { λ r. ⌜ r ≡ rampFrom (now (numbers .entry)) (now (words .entry)) k j ⌝ }
-{
-    let shape = shape_of(words[j + 2]);
-    Ramp {
-        from: numbers[k],
-        to: numbers[k + 1],
-        start: words[j],
-        len: words[j + 1],
-        shape,
-    }
-}
+// ---- a setup
 
 fn setup_from(numbers: &[f64], words: &[u64]) -> Setup
-    requires { ⌜ (numbersLong ≤ length (now numbers)) × (wordsLong ≤ length (now words)) ⌝ }
+    requires { ⌜ (setupNumbersLong ≤ length (now numbers)) × (setupWordsLong ≤ length (now words)) ⌝ }
     ensures { λ r. ⌜ r ≡ setupFrom (now (numbers .entry)) (now (words .entry)) ⌝ }
 {
-    let tone = tone_at(numbers, words[1]);
-    let pad = pad_at(numbers, words[2]);
+    let tone = tone_from(numbers, words[0]);
+    let pad = pad_from(numbers_from(numbers, TONE), words[1]);
     let tape = TapeSetup {
         tone,
         pad,
-        darkened: flag_of(words[3]),
+        darkened: flag_of(words[2]),
         input: numbers[6],
         output: numbers[7],
-        ducked: flag_of(words[4]),
+        ducked: flag_of(words[3]),
     };
     Setup {
         tape,
@@ -483,86 +393,353 @@ fn setup_from(numbers: &[f64], words: &[u64]) -> Setup
     }
 }
 
-fn size_of(w: u64) -> usize
-    ensures { λ r. ⌜ r ≡ w ⌝ }
+fn flags_fit(words: &[u64]) -> bool
+    requires { ⌜ setupWordsLong ≤ length (now words) ⌝ }
+    ensures { λ r. ⌜ r ≡ flagsFit (now (words .entry)) ⌝ }
 {
-    w as usize
+    both(words[2] <= 1, words[3] <= 1)
 }
 
-fn tape_from(numbers: &[f64], words: &[u64]) -> Tape
-    requires { ⌜ (numbersLong ≤ length (now numbers)) × (wordsLong ≤ length (now words)) ⌝ }
-    ensures { λ r. ⌜ r ≡ tapeFrom (now (numbers .entry)) (now (words .entry)) ⌝ }
+fn setup_fits(numbers: &[f64], words: &[u64]) -> bool
+    requires { ⌜ (setupNumbersLong ≤ length (now numbers)) × (setupWordsLong ≤ length (now words)) ⌝ }
+    ensures { λ r. ⌜ r ≡ setupFits (now (numbers .entry)) (now (words .entry)) ⌝ }
 {
-    let tone = lowpass_from(numbers, 15);
-    let bump = section_from(numbers, 33);
-    let rolloff = lowpass_from(numbers, 42);
-    let tilt = one_pole_from(numbers, 60);
-    let equalizer = Equalizer {
+    let tone = tone_fits(numbers, words[0]);
+    let pad = pad_fits(numbers_from(numbers, TONE), words[1]);
+    let weather = both_short(numbers_from(numbers, 8));
+    both(tone, both(pad, both(weather, flags_fit(words))))
+}
+
+// ---- what the tape keeps
+
+fn equalizer_from(numbers: &[f64]) -> Equalizer
+    requires { ⌜ equalizerLong ≤ length (now numbers) ⌝ }
+    ensures { λ r. ⌜ r ≡ equalizerFrom (now (numbers .entry)) ⌝ }
+{
+    let bump = section_from(numbers);
+    let rolloff = lowpass_from(numbers_from(numbers, SECTION));
+    let tilt = one_pole_from(numbers_from(numbers, TILT_AT));
+    Equalizer {
         bump,
         rolloff,
         tilt,
-    };
-    let duck = Duck {
-        count: size_of(words[12]),
-        reached: size_of(words[13]),
-        ducking: size_of(words[14]),
-    };
+    }
+}
+
+fn duck_from(words: &[u64]) -> Duck
+    requires { ⌜ tapeWordsLong ≤ length (now words) ⌝ }
+    ensures { λ r. ⌜ r ≡ duckFrom (now (words .entry)) ⌝ }
+{
+    Duck {
+        count: size_of(words[0]),
+        reached: size_of(words[1]),
+        ducking: size_of(words[2]),
+    }
+}
+
+fn tape_from(numbers: &[f64], words: &[u64]) -> Tape
+    requires { ⌜ (tapeNumbersLong ≤ length (now numbers)) × (tapeWordsLong ≤ length (now words)) ⌝ }
+    ensures { λ r. ⌜ r ≡ tapeFrom (now (numbers .entry)) (now (words .entry)) ⌝ }
+{
+    let tone = lowpass_from(numbers);
+    let equalizer = equalizer_from(numbers_from(numbers, LOWPASS));
+    let tuning = numbers_from(numbers, TUNING_AT);
+    let duck = duck_from(words);
     Tape {
         tone,
         equalizer,
         duck,
-        drive: numbers[85],
-        top: numbers[86],
-        until: words[18],
+        drive: tuning[0],
+        top: tuning[1],
+        until: words[3],
     }
 }
 
+// ---- a lane
+
+pub fn lane_numbers(lane: Lane) -> [f64; LANE_NUMBERS]
+    ensures { λ r. ⌜ r ≡ laneNumbers lane ⌝ }
+{
+    let setup = lane.setup;
+    let tape = setup.tape;
+    let tone = tape.tone;
+    let pad = tape.pad;
+    let t = tone_numbers(tone);
+    let p = pad_numbers(pad);
+    let daylight = casts::widen(lane.setup.daylight);
+    let rain = casts::widen(lane.setup.rain);
+    [
+        t[0],
+        t[1],
+        t[2],
+        t[3],
+        p[0],
+        p[1],
+        lane.setup.tape.input,
+        lane.setup.tape.output,
+        daylight,
+        rain,
+        lane.setup.send,
+        lane.daylight.from,
+        lane.daylight.to,
+        lane.rain.from,
+        lane.rain.to,
+        lane.tape.tone.first.b0,
+        lane.tape.tone.first.b1,
+        lane.tape.tone.first.b2,
+        lane.tape.tone.first.a1,
+        lane.tape.tone.first.a2,
+        lane.tape.tone.first.x1,
+        lane.tape.tone.first.x2,
+        lane.tape.tone.first.y1,
+        lane.tape.tone.first.y2,
+        lane.tape.tone.second.b0,
+        lane.tape.tone.second.b1,
+        lane.tape.tone.second.b2,
+        lane.tape.tone.second.a1,
+        lane.tape.tone.second.a2,
+        lane.tape.tone.second.x1,
+        lane.tape.tone.second.x2,
+        lane.tape.tone.second.y1,
+        lane.tape.tone.second.y2,
+        lane.tape.equalizer.bump.b0,
+        lane.tape.equalizer.bump.b1,
+        lane.tape.equalizer.bump.b2,
+        lane.tape.equalizer.bump.a1,
+        lane.tape.equalizer.bump.a2,
+        lane.tape.equalizer.bump.x1,
+        lane.tape.equalizer.bump.x2,
+        lane.tape.equalizer.bump.y1,
+        lane.tape.equalizer.bump.y2,
+        lane.tape.equalizer.rolloff.first.b0,
+        lane.tape.equalizer.rolloff.first.b1,
+        lane.tape.equalizer.rolloff.first.b2,
+        lane.tape.equalizer.rolloff.first.a1,
+        lane.tape.equalizer.rolloff.first.a2,
+        lane.tape.equalizer.rolloff.first.x1,
+        lane.tape.equalizer.rolloff.first.x2,
+        lane.tape.equalizer.rolloff.first.y1,
+        lane.tape.equalizer.rolloff.first.y2,
+        lane.tape.equalizer.rolloff.second.b0,
+        lane.tape.equalizer.rolloff.second.b1,
+        lane.tape.equalizer.rolloff.second.b2,
+        lane.tape.equalizer.rolloff.second.a1,
+        lane.tape.equalizer.rolloff.second.a2,
+        lane.tape.equalizer.rolloff.second.x1,
+        lane.tape.equalizer.rolloff.second.x2,
+        lane.tape.equalizer.rolloff.second.y1,
+        lane.tape.equalizer.rolloff.second.y2,
+        lane.tape.equalizer.tilt.pole,
+        lane.tape.equalizer.tilt.y,
+        lane.tape.drive,
+        lane.tape.top,
+    ]
+}
+
+pub fn lane_words(lane: Lane) -> [u64; LANE_WORDS]
+    ensures { λ r. ⌜ r ≡ laneWords lane ⌝ }
+{
+    let setup = lane.setup;
+    let tape = setup.tape;
+    let tone = tape.tone;
+    let pad = tape.pad;
+    let daylight = lane.daylight;
+    let rain = lane.rain;
+    let daylight_shape = daylight.shape;
+    let rain_shape = rain.shape;
+    [
+        tone_tag(tone),
+        pad_tag(pad),
+        flagged(lane.setup.tape.darkened),
+        flagged(lane.setup.tape.ducked),
+        word_of(lane.points),
+        lane.daylight.start,
+        lane.daylight.len,
+        shape_tag(daylight_shape),
+        lane.rain.start,
+        lane.rain.len,
+        shape_tag(rain_shape),
+        word_of(lane.tape.duck.count),
+        word_of(lane.tape.duck.reached),
+        word_of(lane.tape.duck.ducking),
+        lane.tape.until,
+    ]
+}
+
+pub fn lane_from(numbers: &[f64], words: &[u64]) -> Lane
+    requires { ⌜ (laneNumbersLong ≤ length (now numbers)) × (laneWordsLong ≤ length (now words)) ⌝ }
+    ensures { λ r. ⌜ r ≡ laneFrom (now (numbers .entry)) (now (words .entry)) ⌝ }
+{
+    let setup = setup_from(numbers, words);
+    let daylight = ramp_from(
+        numbers_from(numbers, SETUP_NUMBERS),
+        words_from(words, DAYLIGHT_WORDS_AT),
+    );
+    let rain = ramp_from(
+        numbers_from(numbers, RAIN_AT),
+        words_from(words, RAIN_WORDS_AT),
+    );
+    let tape = tape_from(
+        numbers_from(numbers, TAPE_AT),
+        words_from(words, TAPE_WORDS_AT),
+    );
+    Lane {
+        setup,
+        points: size_of(words[SETUP_WORDS]),
+        daylight,
+        rain,
+        tape,
+    }
+}
+
+fn lane_fits(numbers: &[f64], words: &[u64]) -> bool
+    requires { ⌜ (laneNumbersLong ≤ length (now numbers)) × (laneWordsLong ≤ length (now words)) ⌝ }
+    ensures { λ r. ⌜ r ≡ laneFits (now (numbers .entry)) (now (words .entry)) ⌝ }
+{
+    let setup = setup_fits(numbers, words);
+    let daylight = ramp_fits(words_from(words, DAYLIGHT_WORDS_AT));
+    let rain = ramp_fits(words_from(words, RAIN_WORDS_AT));
+    both(setup, both(daylight, rain))
+}
+
+// ---- a bus
+
+pub fn bus_numbers(bus: Bus) -> [f64; BUS_NUMBERS]
+    ensures { λ r. ⌜ r ≡ busNumbers bus ⌝ }
+{
+    [
+        bus.plate.tank.left.pole,
+        bus.plate.tank.left.y,
+        bus.plate.tank.right.pole,
+        bus.plate.tank.right.y,
+        bus.plate.left.b0,
+        bus.plate.left.b1,
+        bus.plate.left.b2,
+        bus.plate.left.a1,
+        bus.plate.left.a2,
+        bus.plate.left.x1,
+        bus.plate.left.x2,
+        bus.plate.left.y1,
+        bus.plate.left.y2,
+        bus.plate.right.b0,
+        bus.plate.right.b1,
+        bus.plate.right.b2,
+        bus.plate.right.a1,
+        bus.plate.right.a2,
+        bus.plate.right.x1,
+        bus.plate.right.x2,
+        bus.plate.right.y1,
+        bus.plate.right.y2,
+        bus.ceiling.released,
+    ]
+}
+
+pub fn bus_words(bus: Bus) -> [u64; BUS_WORDS]
+    ensures { λ r. ⌜ r ≡ busWords bus ⌝ }
+{
+    [
+        bus.ceiling.count,
+        word_of(bus.ceiling.head),
+        word_of(bus.ceiling.len),
+    ]
+}
+
 fn plate_from(numbers: &[f64]) -> Plate
-    requires { ⌜ numbersLong ≤ length (now numbers) ⌝ }
+    requires { ⌜ busNumbersLong ≤ length (now numbers) ⌝ }
     ensures { λ r. ⌜ r ≡ plateFrom (now (numbers .entry)) ⌝ }
 {
-    let tank_left = one_pole_from(numbers, 62);
-    let tank_right = one_pole_from(numbers, 64);
+    let tank_left = one_pole_from(numbers);
+    let tank_right = one_pole_from(numbers_from(numbers, ONE_POLE));
     let tank = Tank {
         left: tank_left,
         right: tank_right,
     };
-    let left = section_from(numbers, 66);
-    let right = section_from(numbers, 75);
+    let left = section_from(numbers_from(numbers, LEFT_AT));
+    let right = section_from(numbers_from(numbers, RIGHT_AT));
     Plate { tank, left, right }
 }
 
-fn ceiling_from(numbers: &[f64], words: &[u64]) -> Ceiling
-    requires { ⌜ (numbersLong ≤ length (now numbers)) × (wordsLong ≤ length (now words)) ⌝ }
-    ensures { λ r. ⌜ r ≡ ceilingFrom (now (numbers .entry)) (now (words .entry)) ⌝ }
+pub fn bus_from(numbers: &[f64], words: &[u64]) -> Bus
+    requires { ⌜ (busNumbersLong ≤ length (now numbers)) × (busWordsLong ≤ length (now words)) ⌝ }
+    ensures { λ r. ⌜ r ≡ busFrom (now (numbers .entry)) (now (words .entry)) ⌝ }
 {
-    Ceiling {
-        released: numbers[84],
-        count: words[15],
-        head: size_of(words[16]),
-        len: size_of(words[17]),
-    }
+    let plate = plate_from(numbers);
+    let ceiling = Ceiling {
+        released: numbers[RELEASED_AT],
+        count: words[0],
+        head: size_of(words[1]),
+        len: size_of(words[2]),
+    };
+    Bus { plate, ceiling }
+}
+
+// ---- a strip
+
+fn pack_numbers(strip: Strip, numbers: &mut [f64])
+    requires { ⌜ numbersLong ≤ length (now numbers) ⌝ }
+    ensures { λ _. ⌜ now (numbers .exit) ≡ over (packedNumbers strip) (now (numbers .entry)) ⌝ }
+{
+    let bus = strip.bus;
+    let lane = strip.lane;
+    let b = bus_numbers(bus);
+    let k = lane_numbers(lane);
+    laying::lay_values(&b, numbers);
+    laying::lay_values(&k, &mut numbers[BUS_NUMBERS..]);
+}
+
+fn pack_words(strip: Strip, words: &mut [u64])
+    requires { ⌜ wordsLong ≤ length (now words) ⌝ }
+    ensures { λ _. ⌜ now (words .exit) ≡ over (packedWords strip) (now (words .entry)) ⌝ }
+{
+    let bus = strip.bus;
+    let lane = strip.lane;
+    let own = [strip.position];
+    let b = bus_words(bus);
+    let k = lane_words(lane);
+    laying::lay_positions(&own, words);
+    laying::lay_positions(&b, &mut words[OWN_WORDS..]);
+    laying::lay_positions(&k, &mut words[LANE_WORDS_AT..]);
+}
+
+// A strip laid at its places, and what stands behind it as it was.
+pub fn pack(strip: Strip, numbers: &mut [f64], words: &mut [u64])
+    requires { ⌜ (numbersLong ≤ length (now numbers)) × (wordsLong ≤ length (now words)) ⌝ }
+    ensures { λ _. ⌜ now (numbers .exit) ≡ over (packedNumbers strip) (now (numbers .entry)) ⌝ }
+    ensures { λ _. ⌜ now (words .exit) ≡ over (packedWords strip) (now (words .entry)) ⌝ }
+{
+    pack_numbers(strip, numbers);
+    pack_words(strip, words);
+}
+
+pub fn roomy(numbers: &[f64], words: &[u64]) -> bool
+    ensures { λ r. ⌜ r ≡ roomy (now (numbers .entry)) (now (words .entry)) ⌝ }
+{
+    both(NUMBERS <= numbers.len(), WORDS <= words.len())
+}
+
+fn unpackable(numbers: &[f64], words: &[u64]) -> bool
+    requires { ⌜ (numbersLong ≤ length (now numbers)) × (wordsLong ≤ length (now words)) ⌝ }
+    ensures { λ r. ⌜ r ≡ unpackable (now (numbers .entry)) (now (words .entry)) ⌝ }
+{
+    lane_fits(
+        numbers_from(numbers, BUS_NUMBERS),
+        words_from(words, LANE_WORDS_AT),
+    )
 }
 
 fn strip_from(numbers: &[f64], words: &[u64]) -> Strip
     requires { ⌜ (numbersLong ≤ length (now numbers)) × (wordsLong ≤ length (now words)) ⌝ }
     ensures { λ r. ⌜ r ≡ stripFrom (now (numbers .entry)) (now (words .entry)) ⌝ }
 {
-    let setup = setup_from(numbers, words);
-    let daylight = ramp_from(numbers, words, 11, 6);
-    let rain = ramp_from(numbers, words, 13, 9);
-    let tape = tape_from(numbers, words);
-    let plate = plate_from(numbers);
-    let ceiling = ceiling_from(numbers, words);
+    let bus = bus_from(numbers, words_from(words, OWN_WORDS));
+    let lane = lane_from(
+        numbers_from(numbers, BUS_NUMBERS),
+        words_from(words, LANE_WORDS_AT),
+    );
     Strip {
         position: words[0],
-        setup,
-        points: size_of(words[5]),
-        daylight,
-        rain,
-        tape,
-        plate,
-        ceiling,
+        lane,
+        bus,
     }
 }
 

@@ -1,5 +1,5 @@
 use Rattle.goqhari.proofs.Ends.{open-short, open-flags, open-done}
-use Rattle.refusals.specs.Pieces.{listsOf}
+use Rattle.strip.specs.Kept.{listsOf}
 use Rattle.packing.proofs.Read.{room}
 use Rattle.stage.proofs.Answered.{passes, fails}
 use borrow.Author.Needs.{needs}

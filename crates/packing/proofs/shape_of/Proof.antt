@@ -1,5 +1,5 @@
-use Rattle.packing.specs.Packing.{shapeOf}
 use borrow.Author.Tests.{eq-eqb, ne-eqb}
+use Rattle.packing.specs.Packing.{shapeOf}
 use Rattle.packing.proofs.shape_of.Statement.{statement}
 use Rattle.packing.proofs.shape_of.Tie as tie
 

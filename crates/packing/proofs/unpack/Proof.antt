@@ -1,12 +1,9 @@
+use Rattle.stage.proofs.Answered.{passes, fails}
 use Rattle.packing.specs.Packing.{unpacked}
 use Rattle.packing.proofs.Read.{room}
-use Rattle.stage.proofs.Answered.{passes, fails}
 use borrow.Author.Needs.{needs}
 use Rattle.packing.proofs.unpack.Statement.{statement}
 use Rattle.packing.proofs.unpack.Tie as tie
-
-roomy-requires : tie.Need-roomy-requires
-roomy-requires c κs = search needs
 
 returns : tie.Need-returns
 unfolding unpacked
@@ -24,9 +21,7 @@ strip-from-requires c κs = room _ _ (passes (c .before .before .before .roomy .
 
 returns-3 : tie.Need-returns-3
 unfolding unpacked
-returns-3 c = rw (passes (c .before .before .before .before .roomy .ensures) (c .before .before .before .if1 .left), passes (c .before .before .unpackable .ensures) (c .before .if2 .left)) (rw (c .strip-from .ensures))
+returns-3 c = rw (passes (c .before .before .before .before .roomy .ensures) (c .before .before .before .if1 .left), passes (c .before .before .unpackable .ensures) (c .before .if2 .left), c .strip-from .ensures)
 
 pub unpack-spec : {M : Type 1} → statement M
-unpack-spec =
-    tie.close
-    (tie.spec roomy-requires returns unpackable-requires returns-2 strip-from-requires returns-3)
+unpack-spec = tie.close (tie.spec (λ c κs. search needs) returns unpackable-requires returns-2 strip-from-requires returns-3)
