@@ -8,8 +8,33 @@
 #include <stdlib.h>
 #include <string.h>
 
-/* words of a strip: its position, and the tags and flags, each 0 or 1 */
-enum { SAMPLES = 96, POSITION = 0, GRADED = 1, PAD = 2, DARKENED = 3, DUCKED = 4, DAYLIGHT_SHAPE = 8, RAIN_SHAPE = 11 };
+enum { SAMPLES = 96 };
+
+/* words of a strip: its position, and the lane's tags and flags, each 0 or 1 */
+enum {
+    POSITION = 0,
+    LANE_WORDS_AT = 4,
+    GRADED = LANE_WORDS_AT,
+    PAD,
+    DARKENED,
+    DUCKED,
+    DAYLIGHT_SHAPE = LANE_WORDS_AT + 7,
+    RAIN_SHAPE = LANE_WORDS_AT + 10
+};
+
+/* numbers of a strip: the lane's that are f32 */
+enum {
+    LANE_NUMBERS_AT = 23,
+    CORNER = LANE_NUMBERS_AT,
+    DAY_CORNER,
+    NIGHT_DRIVE,
+    DAY_DRIVE,
+    SWELL_RATE,
+    SWELL_DEPTH,
+    DAYLIGHT = LANE_NUMBERS_AT + 8,
+    RAIN
+};
+
 static const uint64_t END = GOQHARI_MAX_POSITION;
 
 /* ---- what is lent, and how it was */
@@ -259,7 +284,8 @@ static void bad_latches(void) {
 
 /* What the packing itself declines: a tag or a flag above 1, and a number that is no f32 where one belongs. */
 static void bad_packing(void) {
-    static const int tags[] = {GRADED, PAD, DARKENED, DUCKED, DAYLIGHT_SHAPE, RAIN_SHAPE}, f32s[] = {0, 1, 2, 3, 4, 5, 8, 9};
+    static const int tags[] = {GRADED, PAD, DARKENED, DUCKED, DAYLIGHT_SHAPE, RAIN_SHAPE};
+    static const int f32s[] = {CORNER, DAY_CORNER, NIGHT_DRIVE, DAY_DRIVE, SWELL_RATE, SWELL_DEPTH, DAYLIGHT, RAIN};
     for (int i = 0; i < 6; i++) {
         words[tags[i]] = i % 2 ? UINT64_MAX : 2;
         keep();
@@ -276,16 +302,17 @@ static void bad_packing(void) {
 
 /* A number that its tag leaves out may be anything. */
 static void left_out(void) {
+    static const int out[] = {NIGHT_DRIVE, DAY_DRIVE, SWELL_RATE, SWELL_DEPTH};
     static const double any[] = {0.1, -1, 1e300, 0};
     struct opening plain = good;
     plain.flags &= ~(uint64_t)(GOQHARI_GRADED | GOQHARI_PAD);
     accepted("open of a fixed tone and no pad", open_in(plain, whole));
     for (int i = 0; i < 4; i++) {
-        numbers[2 + i] = NAN;
+        numbers[out[i]] = NAN;
         accepted("rest with a number left out that is NaN", rest_in(whole));
-        numbers[2 + i] = any[i];
+        numbers[out[i]] = any[i];
         accepted("run with any number left out", run());
-        numbers[2 + i] = -any[i];
+        numbers[out[i]] = -any[i];
         accepted("latch with any number left out", latch_in(0.5f, 10, 0.5f, 10, whole));
     }
     fresh();

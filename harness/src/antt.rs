@@ -64,13 +64,13 @@ fn ramp(ramp: &Ramp) -> String {
     format!("(line{} {start} {len})", doubles(&ends))
 }
 
-/// The lane as it stands in the oracle's strip.
-pub fn lane(strip: &Strip) -> String {
+/// The lane as it stands in the oracle's strip, under the setup and lists of the list that `name` names.
+pub fn lane(strip: &Strip, name: &str) -> String {
     let ramps: Vec<String> = strip.automation.ramps().iter().map(|&one| ramp(one)).collect();
     let sections: Vec<String> =
         strip.tape.sections().iter().map(|section| format!("\n    (section{})", doubles(section))).collect();
     format!(
-        "lane {} {}{}\n    ({})\n    (pole{})\n    ({})",
+        "lane {} ({name} .setup) ({name} .lists) {}{}\n    ({})\n    (pole{})\n    ({})",
         strip.n,
         ramps.join(" "),
         sections.concat(),

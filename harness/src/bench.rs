@@ -18,6 +18,7 @@ mod shrink;
 mod signal;
 mod strip;
 
+use compare::refusals::{FRAMES, NEEDS, PLATE, STEPS, WAITING};
 use library::Memory;
 use oracle::Controls;
 use oracle::stream::master::Ceiling;
@@ -102,7 +103,7 @@ fn tape(name: &str, setup: &Setup, x: &[f64], size: usize, rounds: u64) {
 
 fn plate(x: &[f64], size: usize, rounds: u64) {
     let calls: Vec<u64> = x.chunks(size).map(|call| call.len() as u64).collect();
-    let mut lent = vec![0.0; 47_104];
+    let mut lent = vec![0.0; PLATE.len];
     let [mut left, mut right] = [x.to_vec(), x.to_vec()];
     let mut sides = [Vec::new(), Vec::new()];
     let mut ours = || {
@@ -123,7 +124,7 @@ fn plate(x: &[f64], size: usize, rounds: u64) {
 fn ceiling(x: &[f64], size: usize, rounds: u64) {
     let calls: Vec<u64> = x.chunks(size).map(|call| call.len() as u64).collect();
     let y: Vec<f64> = x.iter().map(|x| x * 0.7).collect();
-    let (mut samples, mut counts) = (vec![0.0; 1323], vec![0; 1104]);
+    let (mut samples, mut counts) = (vec![0.0; NEEDS.len + WAITING.len], vec![0; FRAMES.len + STEPS.len]);
     let (mut frames, mut gains) = (vec![0.0f32; 2 * x.len()], vec![0; x.len()]);
     let both: Vec<[f64; 2]> = x.iter().zip(&y).map(|(&l, &r)| [l, r]).collect();
     let mut theirs = both.clone();

@@ -1,6 +1,7 @@
 //! The part, by the functions of crates/exports. SIGNATURES.md says what each takes. A slice passes as its address and
 //! its length (a u64), an array as its address.
 
+use crate::compare::refusals::{FRAMES, KICKS, MARKS, NEEDS, PLATE, STEPS, WAITING, WARP};
 use crate::setup::{Numbers, Setup};
 
 unsafe extern "C" {
@@ -117,7 +118,7 @@ pub struct Duck {
 
 impl Duck {
     pub fn new(kicks: &[u64]) -> Self {
-        let mut counts = vec![u64::MAX; 2048];
+        let mut counts = vec![u64::MAX; KICKS.len + MARKS.len];
         let count = unsafe {
             goqhari_test_duck_new(kicks.as_ptr(), kicks.len() as u64, counts.as_mut_ptr(), counts.len() as u64)
         };
@@ -151,7 +152,7 @@ impl Call {
 /// A fresh tape over `samples` by calls. Whether it is at rest then.
 pub fn tape(setup: &Setup, samples: &mut [f64], calls: &[Call]) -> bool {
     let Numbers { f32s, f64s, flags } = setup.numbers();
-    let (mut ring, mut counts) = (vec![f64::NAN; 64], vec![u64::MAX; 2048]);
+    let (mut ring, mut counts) = (vec![f64::NAN; WARP.len], vec![u64::MAX; KICKS.len + MARKS.len]);
     let calls: Vec<u64> = calls.iter().flat_map(Call::words).collect();
     unsafe {
         goqhari_test_tape(
@@ -178,7 +179,7 @@ pub fn tape(setup: &Setup, samples: &mut [f64], calls: &[Call]) -> bool {
 
 /// A fresh plate over `x`, in calls of the given lengths: its two sides, and whether it is at rest then.
 pub fn plate(x: &[f64], calls: &[u64]) -> ([Vec<f64>; 2], bool) {
-    let mut part = vec![f64::NAN; 47_104];
+    let mut part = vec![f64::NAN; PLATE.len];
     let mut left = x.to_vec();
     let mut right = vec![f64::NAN; x.len()];
     let rest = plate_in(&mut part, &mut left, &mut right, calls);
@@ -203,7 +204,7 @@ pub fn plate_in(part: &mut [f64], left: &mut [f64], right: &mut [f64], calls: &[
 
 /// A fresh ceiling over frames, in calls of the given lengths: what it delivers, and the gain counts.
 pub fn ceiling(left: &[f64], right: &[f64], calls: &[u64]) -> (Vec<f32>, Vec<u64>) {
-    let (mut samples, mut counts) = (vec![f64::NAN; 1323], vec![u64::MAX; 1104]);
+    let (mut samples, mut counts) = (vec![f64::NAN; NEEDS.len + WAITING.len], vec![u64::MAX; FRAMES.len + STEPS.len]);
     let mut frames = vec![0.0; 2 * left.len()];
     let mut gains = vec![0; left.len()];
     ceiling_in((&mut samples, &mut counts), left, right, &mut frames, &mut gains, calls);

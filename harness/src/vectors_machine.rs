@@ -88,10 +88,10 @@ impl Answer {
         }
     }
 
-    /// What the call gets of the lane.
-    fn dry(&self) -> String {
+    /// What the call gets of the lane of the list that `name` names.
+    fn dry(&self, name: &str) -> String {
         match self {
-            Answer::Ran(y, ..) => format!("sounds ({})", samples(y)),
+            Answer::Ran(y, ..) => format!("sounds ({})", given(name, &samples(y))),
             Answer::Moved => "moves".into(),
             Answer::Rests(_, still) => format!("asks {}", truth(*still)),
             Answer::Declined(number) => format!("refuses {number}"),
@@ -101,6 +101,11 @@ impl Answer {
     fn samples(&self) -> &[f64] {
         if let Answer::Ran(y, ..) = self { y } else { &[] }
     }
+}
+
+/// What the lane of the list that `name` names gives the bus with its samples.
+fn given(name: &str, samples: &str) -> String {
+    format!("given ({name} .setup) ({samples})")
 }
 
 /// The lane's samples.
@@ -128,7 +133,7 @@ impl Played {
         let mut strip = Strip::open(&self.setup, self.rate);
         let mut tell = |stretch: &Vec<Call>| Told {
             answers: stretch.iter().map(|call| call.answer(&mut strip)).collect(),
-            lane: antt::lane(&strip),
+            lane: antt::lane(&strip, self.name),
         };
         self.stretches.iter().map(&mut tell).collect()
     }
@@ -184,19 +189,19 @@ impl Played {
     fn print_proofs(&self, step: &str, of: &str, given: &str, dry: impl Fn(&[Answer]) -> String) {
         let Self { name, rate, .. } = self;
         let told = self.told();
-        let at = format!("(rateOf {rate}) ({name} .setup) ({name} .lists)");
-        let stretch = format!("Stretch ({step} {at})");
+        let stretch = format!("Stretch ({step} (rateOf {rate}))");
+        let fresh = format!("(at 0 (freshLane (rateOf {rate}) ({name} .setup) ({name} .lists)))");
         println!("\n-- {name}");
         for (k, Told { answers, lane }) in told.iter().enumerate() {
             let next = k + 1;
-            println!("abbrev {name}-lane{next} : Lane\n{name}-lane{next} =\n    {lane}\n");
+            println!("abbrev {name}-lane{next} : At LaneMachine\n{name}-lane{next} =\n    {lane}\n");
             println!("abbrev {name}-dry{k} : List {given}\n{name}-dry{k} = {}\n", dry(answers));
-            let from = if k == 0 { format!("(freshLane {at})") } else { format!("{name}-lane{k}") };
+            let from = if k == 0 { fresh.clone() } else { format!("{name}-lane{k}") };
             println!("{name}-stretch{k} : {stretch} {from} {name}{k} {name}-lane{next} {name}-dry{k}");
             println!("unfolding computed\n{name}-stretch{k} = record {{ rolls = refl }}\n");
         }
         println!("abbrev pub {name}-dry : List {given}\n{name}-dry = {}\n", self.joined("-dry", " ++ "));
-        println!("pub {name}-lane : {stretch} (freshLane {at}) ({name} .{of}) {name}-lane{} {name}-dry", told.len());
+        println!("pub {name}-lane : {stretch} {fresh} ({name} .{of}) {name}-lane{} {name}-dry", told.len());
         println!("{name}-lane = {}", self.joined("-stretch", " & "));
     }
 }
@@ -311,10 +316,10 @@ const STRETCHES: &str = "-- What the Rust's lane gave in each stretch of a list 
 use mathlib.Core.Path.{refl}
 use mathlib.Core.Bool.{true, false}
 use mathlib.Core.List.{List, [], _∷_, _++_}
-use lib.Ieee.{Float}
 use Rattle.rate.specs.Rate.{rateOf}
-use Rattle.played.specs.Played.{double}
-use Rattle.played.proofs.Apart.{Stretch, _&_, Lane, Dry, sounds, moves, asks, refuses, freshLane, laneFed, laneCall}
+use Rattle.strip.specs.Machine.{LaneMachine, Sent, freshLane}
+use Rattle.played.specs.Played.{double, given}
+use Rattle.played.proofs.Apart.{Stretch, _&_, At, at, Dry, sounds, moves, asks, refuses, laneFed, laneCall}
 use Rattle.played.proofs.Computed.{computed}
 use Rattle.played.proofs.Written.{line, section, pole, lane}";
 
@@ -332,8 +337,8 @@ fn main() {
         Some("stretches") => {
             println!("{STRETCHES}");
             println!("use Rattle.played.specs.Lists.{{{}, {}}}", everything.names(), cd.names());
-            everything.print_proofs("laneCall", "calls", "Dry", |answers| list(answers, Answer::dry));
-            cd.print_proofs("laneFed", "events", "Float", dry);
+            everything.print_proofs("laneCall", "calls", "Dry", |answers| list(answers, |a| a.dry(everything.name)));
+            cd.print_proofs("laneFed", "events", "Sent", |answers| given(cd.name, &dry(answers)));
         }
         _ => panic!("vectors_machine lists, or vectors_machine stretches"),
     }

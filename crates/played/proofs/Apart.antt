@@ -1,24 +1,18 @@
--- The one-sample machine in two, its lane and what is behind it, each computed in stretches of a list of calls: together they are strip's `expected`. Assumes nothing.
+-- The one-sample machine's lane and bus apart, each computed in stretches of a list of calls: together they answer as strip's `machine`. Assumes nothing.
 use mathlib.Core.Path.{_≡_, refl, sym, ap, _∙_}
 use mathlib.Core.Bool.{Bool, true, false, cond, _&&_}
 use Prim.Native.Nat.{ℕ, _+_}
 use mathlib.Core.List.{List, [], _∷_, _++_, append-assoc}
 use lib.Dec.{eqb}
-use lib.Ieee.{Float}
 use Rattle.stage.specs.Stage.{Step}
-use Rattle.ramp.specs.declared.Ramp.{Ramp}
-use Rattle.ramp.specs.declared.Shape.the-variants.{Linear}
-use Rattle.ramp.specs.Ramp.{held, toward}
+use Rattle.stage.specs.System.{through}
 use Rattle.rate.specs.declared.Rate.{Rate}
-use Rattle.tape.specs.Tape.{Lists, TapeMachine, tapeStep, freshTapeMachine, tapeAtRest}
-use Rattle.plate.specs.Machine.{PlateMachine, freshPlate, atRest}
+use Rattle.tape.specs.Tape.{Lists}
 use Rattle.master.specs.declared.Heard.{Heard}
-use Rattle.master.specs.Ceiling.{CeilingMachine, freshMachine, ceilingStep}
 use Rattle.master.specs.Kept.{framesOut, countsOut}
 use Rattle.strip.specs.declared.Setup.{Setup}
-use Rattle.strip.specs.Machine.{Machine, Event, sample, latch, fresh, mixedStep, stepped, latched, resting, fed, fedAll, delivers, heardFrom}
-use Rattle.strip.specs.Promise.{Call, run, move, ask, Answer, ran, moved, rests, declined, refusal, eventsOf, feeds, accepted, says, expected}
-use Rattle.played.specs.Played.{dries, dryFrom}
+use Rattle.strip.specs.Machine.{LaneMachine, BusMachine, Machine, freshLane, freshBus, fresh, Sent, laneStep, busStep, stepped, laneLatched, latched, laneResting, busResting, resting, Event, sample, latch, fed, fedAll, delivers, heardFrom, sends, sentFrom}
+use Rattle.strip.specs.Promise.{Call, run, move, ask, Answer, ran, moved, rests, declined, refusal, eventsOf, feeds, accepted, says, machineSystem}
 
 -- ---- steps over a list: the state after it and all that they gave, each step computed once
 
@@ -43,158 +37,137 @@ infixl 60 _&_
 pub _&_ : {S X Y : Type 0} {f : S → X → Step S (List Y)} {s t u : S} {xs zs : List X} {ys ws : List Y} → Stretch f s xs t ys → Stretch f t zs u ws → Stretch f s (xs ++ zs) u (ys ++ ws)
 _&_ {f = f} {s = s} {xs = xs} {zs = zs} a b = record { rolls = rolled-append f s xs zs ∙ rw (a .rolls, b .rolls) }
 
+-- a lane or a bus, and the position at which it stands
+pub record At (S : Type 0) : Type 0 where
+  pub position : ℕ
+  pub stands : S
+
+abbrev pub at : {S : Type 0} → ℕ → S → At S
+at n s = record { position = n; stands = s }
+
 -- ---- the lane
 
-pub record Lane : Type 0 where
-  pub position : ℕ
-  pub daylight : Ramp
-  pub rain : Ramp
-  pub tape : TapeMachine
-
--- as it stands in the fresh machine
-abbrev pub freshLane : Rate → Setup → Lists → Lane
-freshLane r s l = record { position = 0; daylight = held (s .daylight) Linear; rain = held (s .rain) Linear; tape = freshTapeMachine (r .tape) (l .kicks) }
-
--- what a call gets of it: an accepted run its samples, a question whether the lane is at rest
+-- what a call gets of it: an accepted run what it gives the bus, a question whether the lane is at rest
 pub data Dry : Type 0 where
-  sounds : List Float → Dry
+  sounds : List Sent → Dry
   moves : Dry
   asks : Bool → Dry
   refuses : ℕ → Dry
 
-module _ (r : Rate) (s : Setup) (l : Lists) where
-  unfoldable pub laneFed : Lane → Event → Step Lane (List Float)
-  laneFed a (sample x d) =
-      let y = tapeStep (r .tape) (s .tape) (a .daylight) (a .rain) l d (a .position) (a .tape) x in
-      record { next = record { position = a .position + 1; daylight = a .daylight; rain = a .rain; tape = y .next }; out = y .out ∷ [] }
-  laneFed a (latch c) =
-      let daylight = toward (a .daylight) (a .position) (c .daylight) (c .grading) in
-      let rain = toward (a .rain) (a .position) (c .rain) (c .darkening) in
-      record { next = record { position = a .position; daylight = daylight; rain = rain; tape = a .tape }; out = [] }
+unfoldable pub laneFed : Rate → At LaneMachine → Event → Step (At LaneMachine) (List Sent)
+laneFed r a (sample x d) =
+    let y = laneStep r d (a .position) (a .stands) x in
+    record { next = at (a .position + 1) (y .next); out = y .out ∷ [] }
+laneFed r a (latch c) = record { next = at (a .position) (laneLatched (a .position) (a .stands) c); out = [] }
 
-  unfoldable pub told : Lane → Call → List Float → Dry
-  told a (run xs d frames gains) ys = sounds ys
-  told a (move c) ys = moves
-  told a ask ys = asks (tapeAtRest (a .tape))
+unfoldable pub told : At LaneMachine → Call → List Sent → Dry
+told a (run xs d frames gains) ys = sounds ys
+told a (move c) ys = moves
+told a ask ys = asks (laneResting (a .stands))
 
-  unfoldable pub laneTakes : Lane → Call → Step Lane (List Dry)
-  laneTakes a c = let o = rolled laneFed a (eventsOf c) in record { next = o .next; out = told a c (o .out) ∷ [] }
+unfoldable pub laneTakes : Rate → At LaneMachine → Call → Step (At LaneMachine) (List Dry)
+laneTakes r a c = let o = rolled (laneFed r) a (eventsOf c) in record { next = o .next; out = told a c (o .out) ∷ [] }
 
-  unfoldable pub laneCall : Lane → Call → Step Lane (List Dry)
-  laneCall a c = cond (eqb (refusal (a .position) c) 0) (laneTakes a c) (record { next = a; out = refuses (refusal (a .position) c) ∷ [] })
+unfoldable pub laneCall : Rate → At LaneMachine → Call → Step (At LaneMachine) (List Dry)
+laneCall r a c = cond (eqb (refusal (a .position) c) 0) (laneTakes r a c) (record { next = a; out = refuses (refusal (a .position) c) ∷ [] })
 
--- ---- what is behind it
+-- ---- the bus
 
-pub record Behind : Type 0 where
-  pub position : ℕ
-  pub plate : PlateMachine
-  pub ceiling : CeilingMachine
+unfoldable pub busFed : Rate → At BusMachine → Sent → Step (At BusMachine) (List Heard)
+busFed r b y =
+    let h = busStep r (b .position) (b .stands) y in
+    record { next = at (b .position + 1) (h .next); out = h .out ∷ [] }
 
-abbrev pub freshBehind : Rate → Behind
-freshBehind r = record { position = 0; plate = freshPlate (r .plate); ceiling = freshMachine }
-
-module _ (r : Rate) (send : Float) where
-  unfoldable pub behindFed : Behind → Float → Step Behind (List Heard)
-  behindFed b y =
-      let f = mixedStep (r .plate) send (b .position) (b .plate) y in
-      let h = ceilingStep (r .ceiling) (b .position) (b .ceiling) (f .out) in
-      record { next = record { position = b .position + 1; plate = f .next; ceiling = h .next }; out = h .out ∷ [] }
-
-  unfoldable pub behindCall : Behind → Dry → Step Behind (List Answer)
-  behindCall b (sounds ys) = let o = rolled behindFed b ys in record { next = o .next; out = ran (framesOut (o .out)) (countsOut (o .out)) ∷ [] }
-  behindCall b moves = record { next = b; out = moved ∷ [] }
-  behindCall b (asks still) = record { next = b; out = rests (still && atRest (b .plate)) ∷ [] }
-  behindCall b (refuses k) = record { next = b; out = declined k ∷ [] }
+unfoldable pub busCall : Rate → At BusMachine → Dry → Step (At BusMachine) (List Answer)
+busCall r b (sounds ys) = let o = rolled (busFed r) b ys in record { next = o .next; out = ran (framesOut (o .out)) (countsOut (o .out)) ∷ [] }
+busCall r b moves = record { next = b; out = moved ∷ [] }
+busCall r b (asks still) = record { next = b; out = rests (still && busResting (b .stands)) ∷ [] }
+busCall r b (refuses k) = record { next = b; out = declined k ∷ [] }
 
 -- ---- the two together are the machine
 
-abbrev behind : ℕ → PlateMachine → CeilingMachine → Behind
-behind n p q = record { position = n; plate = p; ceiling = q }
+module _ (r : Rate) where
+  abbrev both : At LaneMachine → BusMachine → Machine
+  both a b = record { position = a .position; lane = a .stands; bus = b }
 
-module _ (r : Rate) (s : Setup) (l : Lists) where
-  abbrev machine : Lane → PlateMachine → CeilingMachine → Machine
-  machine a p q = record { position = a .position; setup = s; lists = l; daylight = a .daylight; rain = a .rain; tape = a .tape; plate = p; ceiling = q }
+  -- what the lane gives for events, and the bus for that
+  abbrev front : At LaneMachine → List Event → Step (At LaneMachine) (List Sent)
+  front a es = rolled (laneFed r) a es
 
-  -- what the lane gives for events, and what is behind it for that
-  abbrev front : Lane → List Event → Step Lane (List Float)
-  front a es = rolled (laneFed r s l) a es
+  abbrev back : At LaneMachine → BusMachine → List Event → Step (At BusMachine) (List Heard)
+  back a b es = rolled (busFed r) (at (a .position) b) (front a es .out)
 
-  abbrev back : Lane → PlateMachine → CeilingMachine → List Event → Step Behind (List Heard)
-  back a p q es = rolled (behindFed r (s .send)) (behind (a .position) p q) (front a es .out)
+  -- the bus after an event that is first
+  abbrev onward : At LaneMachine → BusMachine → Event → BusMachine
+  onward a b e = rolled (busFed r) (at (a .position) b) (laneFed r a e .out) .next .stands
 
-  dry-apart : (es : List Event) (a : Lane) (p : PlateMachine) (q : CeilingMachine) → dryFrom r (machine a p q) es ≡ front a es .out
-  unfolding dryFrom dries fed stepped latched rolled laneFed
-  dry-apart [] a p q = refl
-  dry-apart (sample x d ∷ es) a p q = rw (dry-apart es (laneFed r s l a (sample x d) .next) _ _)
-  dry-apart (latch c ∷ es) a p q = dry-apart es (laneFed r s l a (latch c) .next) p q
+  sent-apart : (es : List Event) (a : At LaneMachine) (b : BusMachine) → sentFrom r (both a b) es ≡ front a es .out
+  unfolding sentFrom sends fed stepped latched rolled laneFed
+  sent-apart [] a b = refl
+  sent-apart (sample x d ∷ es) a b = rw (sent-apart es (laneFed r a (sample x d) .next) _)
+  sent-apart (latch c ∷ es) a b = sent-apart es (laneFed r a (latch c) .next) b
 
-  heard-apart : (es : List Event) (a : Lane) (p : PlateMachine) (q : CeilingMachine) → heardFrom r (machine a p q) es ≡ back a p q es .out
-  unfolding heardFrom delivers fed stepped latched rolled laneFed behindFed
-  heard-apart [] a p q = refl
-  heard-apart (sample x d ∷ es) a p q =
-      let y = laneFed r s l a (sample x d) in
-      let b = rolled (behindFed r (s .send)) (behind (a .position) p q) (y .out) in
-      ap (λ (t : List Heard). b .out ++ t) (heard-apart es (y .next) (b .next .plate) (b .next .ceiling))
-  heard-apart (latch c ∷ es) a p q = heard-apart es (laneFed r s l a (latch c) .next) p q
+  heard-apart : (es : List Event) (a : At LaneMachine) (b : BusMachine) → heardFrom r (both a b) es ≡ back a b es .out
+  unfolding heardFrom delivers fed stepped latched rolled laneFed busFed
+  heard-apart [] a b = refl
+  heard-apart (sample x d ∷ es) a b =
+      let y = laneFed r a (sample x d) in
+      ap (λ (t : List Heard). rolled (busFed r) (at (a .position) b) (y .out) .out ++ t) (heard-apart es (y .next) (onward a b (sample x d)))
+  heard-apart (latch c ∷ es) a b = heard-apart es (laneFed r a (latch c) .next) b
 
-  fed-apart : (es : List Event) (a : Lane) (p : PlateMachine) (q : CeilingMachine)
-      → fedAll r (machine a p q) es ≡ machine (front a es .next) (back a p q es .next .plate) (back a p q es .next .ceiling)
-  unfolding fedAll fed stepped latched rolled laneFed behindFed
-  fed-apart [] a p q = refl
-  fed-apart (sample x d ∷ es) a p q =
-      let y = laneFed r s l a (sample x d) in
-      let b = rolled (behindFed r (s .send)) (behind (a .position) p q) (y .out) in
-      fed-apart es (y .next) (b .next .plate) (b .next .ceiling)
-  fed-apart (latch c ∷ es) a p q = fed-apart es (laneFed r s l a (latch c) .next) p q
+  fed-apart : (es : List Event) (a : At LaneMachine) (b : BusMachine) → fedAll r (both a b) es ≡ both (front a es .next) (back a b es .next .stands)
+  unfolding fedAll fed stepped latched rolled laneFed busFed
+  fed-apart [] a b = refl
+  fed-apart (sample x d ∷ es) a b = fed-apart es (laneFed r a (sample x d) .next) (onward a b (sample x d))
+  fed-apart (latch c ∷ es) a b = fed-apart es (laneFed r a (latch c) .next) b
 
-  same-position : (es : List Event) (a : Lane) (p : PlateMachine) (q : CeilingMachine) → back a p q es .next .position ≡ front a es .next .position
-  unfolding rolled laneFed behindFed
-  same-position [] a p q = refl
-  same-position (sample x d ∷ es) a p q =
-      let y = laneFed r s l a (sample x d) in
-      let b = rolled (behindFed r (s .send)) (behind (a .position) p q) (y .out) in
-      same-position es (y .next) (b .next .plate) (b .next .ceiling)
-  same-position (latch c ∷ es) a p q = same-position es (laneFed r s l a (latch c) .next) p q
+  same-position : (es : List Event) (a : At LaneMachine) (b : BusMachine) → back a b es .next .position ≡ front a es .next .position
+  unfolding rolled laneFed busFed
+  same-position [] a b = refl
+  same-position (sample x d ∷ es) a b = same-position es (laneFed r a (sample x d) .next) (onward a b (sample x d))
+  same-position (latch c ∷ es) a b = same-position es (laneFed r a (latch c) .next) b
+
+  -- what the bus makes of what a call gets of the lane
+  abbrev behind : At LaneMachine → BusMachine → Call → Step (At BusMachine) (List Answer)
+  behind a b c = rolled (busCall r) (at (a .position) b) (laneCall r a c .out)
 
   -- a call: its answer, and where it leaves the machine
-  record Same (a : Lane) (p : PlateMachine) (q : CeilingMachine) (c : Call) : Type 0 where
-    answer : says r (machine a p q) c ∷ [] ≡ rolled (behindCall r (s .send)) (behind (a .position) p q) (laneCall r s l a c .out) .out
-    next :
-        fedAll r (machine a p q) (feeds (a .position) c)
-        ≡ (let w = rolled (behindCall r (s .send)) (behind (a .position) p q) (laneCall r s l a c .out) .next in machine (laneCall r s l a c .next) (w .plate) (w .ceiling))
-    position : rolled (behindCall r (s .send)) (behind (a .position) p q) (laneCall r s l a c .out) .next .position ≡ laneCall r s l a c .next .position
+  record Same (a : At LaneMachine) (b : BusMachine) (c : Call) : Type 0 where
+    answer : says r (both a b) c ∷ [] ≡ behind a b c .out
+    next : fedAll r (both a b) (feeds (a .position) c) ≡ both (laneCall r a c .next) (behind a b c .next .stands)
+    position : behind a b c .next .position ≡ laneCall r a c .next .position
 
-  by-refusal : (a : Lane) (p : PlateMachine) (q : CeilingMachine) (c : Call) (b : Bool) → eqb (refusal (a .position) c) 0 ≡ b → Same a p q c
-  unfolding says feeds accepted eventsOf fedAll resting rolled laneFed laneCall laneTakes told behindCall
-  by-refusal a p q (run xs d frames gains) true e = let es = eventsOf (run xs d frames gains) in record { answer = rw (e, heard-apart es a p q); next = rw e (fed-apart es a p q); position = rw e (same-position es a p q) }
-  by-refusal a p q (move c) true e = record { answer = rw e; next = rw e (fed-apart (latch c ∷ []) a p q); position = rw e }
-  by-refusal a p q ask true e = record { answer = rw e; next = rw e; position = rw e }
-  by-refusal a p q c false e = record { answer = rw e; next = rw e; position = rw e }
+  by-refusal : (a : At LaneMachine) (b : BusMachine) (c : Call) (k : Bool) → eqb (refusal (a .position) c) 0 ≡ k → Same a b c
+  unfolding says feeds accepted eventsOf fedAll resting rolled laneFed laneCall laneTakes told busCall
+  by-refusal a b (run xs d frames gains) true e = let es = eventsOf (run xs d frames gains) in record { answer = rw (e, heard-apart es a b); next = rw e (fed-apart es a b); position = rw e (same-position es a b) }
+  by-refusal a b (move c) true e = record { answer = rw e; next = rw e (fed-apart (latch c ∷ []) a b); position = rw e }
+  by-refusal a b ask true e = record { answer = rw e; next = rw e; position = rw e }
+  by-refusal a b c false e = record { answer = rw e; next = rw e; position = rw e }
 
-  apart : (cs : List Call) (a : Lane) (p : PlateMachine) (q : CeilingMachine)
-      → expected r (machine a p q) cs ≡ rolled (behindCall r (s .send)) (behind (a .position) p q) (rolled (laneCall r s l) a cs .out) .out
-  unfolding expected rolled
-  apart [] a p q = refl
-  apart (c ∷ cs) a p q =
-      let o = by-refusal a p q c (eqb (refusal (a .position) c) 0) refl in
-      let m = machine a p q in
-      let f = laneCall r s l a c in
-      let w = rolled (behindCall r (s .send)) (behind (a .position) p q) (f .out) .next in
-      let rest = rolled (laneCall r s l) (f .next) cs .out in
-      ap (λ (t : Machine). says r m c ∷ expected r t cs) (o .next)
-      ∙ ap (λ (t : List Answer). says r m c ∷ t) (apart cs (f .next) (w .plate) (w .ceiling))
-      ∙ ap (λ (n : ℕ). says r m c ∷ rolled (behindCall r (s .send)) (behind n (w .plate) (w .ceiling)) rest .out) (sym (o .position))
-      ∙ ap (λ (t : List Answer). t ++ rolled (behindCall r (s .send)) w rest .out) (o .answer)
-      ∙ sym (ap (λ (t : Step Behind (List Answer)). t .out) (rolled-append (behindCall r (s .send)) (behind (a .position) p q) (f .out) rest))
+  apart : (cs : List Call) (a : At LaneMachine) (b : BusMachine) → through (machineSystem r) (both a b) cs ≡ rolled (busCall r) (at (a .position) b) (rolled (laneCall r) a cs .out) .out
+  unfolding through rolled
+  apart [] a b = refl
+  apart (c ∷ cs) a b =
+      let o = by-refusal a b c (eqb (refusal (a .position) c) 0) refl in
+      let m = both a b in
+      let f = laneCall r a c in
+      let w = behind a b c .next in
+      let rest = rolled (laneCall r) (f .next) cs .out in
+      ap (λ (t : Machine). says r m c ∷ through (machineSystem r) t cs) (o .next)
+      ∙ ap (λ (t : List Answer). says r m c ∷ t) (apart cs (f .next) (w .stands))
+      ∙ ap (λ (n : ℕ). says r m c ∷ rolled (busCall r) (at n (w .stands)) rest .out) (sym (o .position))
+      ∙ ap (λ (t : List Answer). t ++ rolled (busCall r) w rest .out) (o .answer)
+      ∙ sym (ap (λ (t : Step (At BusMachine) (List Answer)). t .out) (rolled-append (busCall r) (at (a .position) b) (f .out) rest))
 
   -- ---- from the fresh machine on
 
-  pub dry-by : {es : List Event} {a : Lane} {ys : List Float} → Stretch (laneFed r s l) (freshLane r s l) es a ys → dryFrom r (fresh r s l) es ≡ ys
-  unfolding fresh
-  dry-by {es = es} e = dry-apart es (freshLane r s l) (freshPlate (r .plate)) freshMachine ∙ ap (λ (t : Step Lane (List Float)). t .out) (e .rolls)
+  module _ (s : Setup) (l : Lists) where
+    pub sent-by : {es : List Event} {a : At LaneMachine} {ys : List Sent} → Stretch (laneFed r) (at 0 (freshLane r s l)) es a ys → sentFrom r (fresh r s l) es ≡ ys
+    unfolding fresh
+    sent-by {es = es} e = sent-apart es (at 0 (freshLane r s l)) (freshBus r) ∙ ap (λ (t : Step (At LaneMachine) (List Sent)). t .out) (e .rolls)
 
-  pub answered-by : {cs : List Call} {a : Lane} {ds : List Dry} → Stretch (laneCall r s l) (freshLane r s l) cs a ds → expected r (fresh r s l) cs ≡ rolled (behindCall r (s .send)) (freshBehind r) ds .out
-  unfolding fresh
-  answered-by {cs = cs} e =
-      apart cs (freshLane r s l) (freshPlate (r .plate)) freshMachine
-      ∙ ap (λ (t : Step Lane (List Dry)). rolled (behindCall r (s .send)) (freshBehind r) (t .out) .out) (e .rolls)
+    pub answered-by : {cs : List Call} {a : At LaneMachine} {ds : List Dry}
+        → Stretch (laneCall r) (at 0 (freshLane r s l)) cs a ds
+        → through (machineSystem r) (fresh r s l) cs ≡ rolled (busCall r) (at 0 (freshBus r)) ds .out
+    unfolding fresh
+    answered-by {cs = cs} e = apart cs (at 0 (freshLane r s l)) (freshBus r) ∙ ap (λ (t : Step (At LaneMachine) (List Dry)). rolled (busCall r) (at 0 (freshBus r)) (t .out) .out) (e .rolls)

@@ -1,14 +1,13 @@
--- What a list of calls is played with, and what the lane of the one-sample machine gives by itself. Definitions only.
+-- What a list of calls is played with, and a list of events for the lane of the one-sample machine alone. Definitions only.
 use Prim.Native.Nat.{ℕ}
 use mathlib.Core.Bool.{Bool}
-use mathlib.Core.List.{List, [], _∷_, _++_, map}
+use mathlib.Core.List.{List, map}
 use lib.ListN.{replicate}
 use lib.Ieee.{Float, binary32, binary64, ofBits}
-use Rattle.casts.specs.Arithmetic.{nought}
-use Rattle.rate.specs.declared.Rate.{Rate}
-use Rattle.tape.specs.Tape.{Lists, tapeStep}
+use Rattle.casts.specs.Arithmetic.{_⊗_, nought}
+use Rattle.tape.specs.Tape.{Lists}
 use Rattle.strip.specs.declared.Setup.{Setup}
-use Rattle.strip.specs.Machine.{Machine, Event, sample, latch, fed}
+use Rattle.strip.specs.Machine.{Event, sample, Sent}
 use Rattle.strip.specs.Promise.{Call, Answer}
 
 abbrev pub double : ℕ → Float
@@ -37,6 +36,10 @@ pub record Played : Type 0 where
 abbrev pub sampled : Bool → List Float → List Event
 sampled d xs = map (λ x. sample x d) xs
 
+-- "The result y goes to the plate as y·send": what a lane of this setup gives the bus with its samples
+abbrev pub given : Setup → List Float → List Sent
+given s ys = map (λ y. record { dry = y; sent = y ⊗ s .send }) ys
+
 -- events, and what the lane gave for the samples among them
 pub record Sounded : Type 0 where
   pub rate : ℕ
@@ -44,12 +47,3 @@ pub record Sounded : Type 0 where
   pub lists : Lists
   pub events : List Event
   pub samples : List Float
-
--- "The result y": what the machine's lane gives for what it is fed
-unfoldable pub dries : Rate → Machine → Event → List Float
-dries r m (sample x d) = tapeStep (r .tape) (m .setup .tape) (m .daylight) (m .rain) (m .lists) d (m .position) (m .tape) x .out ∷ []
-dries r m (latch c) = []
-
-unfoldable pub dryFrom : Rate → Machine → List Event → List Float
-dryFrom r m [] = []
-dryFrom r m (e ∷ es) = dries r m e ++ dryFrom r (fed r m e) es

@@ -6,7 +6,7 @@
 
 use std::collections::BTreeMap;
 
-use super::refusals::{self, END, Grounds, Part, UNIT};
+use super::refusals::{self, END, Grounds, Part, UNIT, number, word};
 use super::strip::spoil;
 use super::tape::length;
 use crate::library::{COUNTS, Memory, NUMBERS, STORE, WORDS};
@@ -115,8 +115,8 @@ impl Bench {
         };
         self.count(call.name(), &grounds);
         if let Some(fault) = self.fault(call, &grounds, answer, &out) {
-            let (words, numbers) = (&self.before.words[..WORDS], &self.before.numbers[..15]);
-            let strip = format!("words {words:?}, numbers {numbers:?} ..");
+            let (words, numbers) = (&self.before.words[..WORDS], &self.before.numbers[number::SET]);
+            let strip = format!("words {words:?}, numbers .. {numbers:?} ..");
             self.report.differs(0, format!("{call:?} lent {lent:?} of {strip} answers {answer}: {fault}"));
         }
         answer
@@ -163,7 +163,7 @@ impl Bench {
         if out.rests[0] != rests {
             return Some(format!("rests is {} and not {rests}", out.rests[0]));
         }
-        let [from, to] = [&self.before, &self.memory].map(|memory| memory.words[refusals::POSITION]);
+        let [from, to] = [&self.before, &self.memory].map(|memory| memory.words[word::POSITION]);
         match call {
             Call::Run { samples, .. } if answer == 0 && to != from + samples.len() as u64 => {
                 Some(format!("the position is {to}"))
@@ -223,7 +223,7 @@ impl Place {
             Place::Count(at) => memory.counts[at] = value,
             Place::Step(at) => {
                 memory.counts[at] = value;
-                memory.words[refusals::GAIN] = total(memory);
+                memory.words[word::GAIN] = total(memory);
             }
         }
     }
@@ -326,9 +326,9 @@ fn number(rng: &mut Rng) -> f64 {
     }
 }
 
-const STORE_PARTS: [Part; 4] = [refusals::LINES, refusals::NEEDS, refusals::WAITING, refusals::VALUES];
+const STORE_PARTS: [Part; 5] = [refusals::PLATE, refusals::NEEDS, refusals::WAITING, refusals::WARP, refusals::VALUES];
 const COUNT_PARTS: [Part; 5] =
-    [refusals::KICKS, refusals::MARKS, refusals::FRAMES, refusals::STEPS, refusals::POSITIONS];
+    [refusals::FRAMES, refusals::STEPS, refusals::KICKS, refusals::MARKS, refusals::POSITIONS];
 
 /// Every number and word; of each kept list its ends, what of it is in use, and what lies behind the last.
 fn places(memory: &Memory) -> Vec<Place> {
@@ -343,12 +343,12 @@ fn places(memory: &Memory) -> Vec<Place> {
     out.extend([at, at + len / 2, at + len - 1].map(Place::Step));
     let queue: Vec<usize> = refusals::queue(&memory.words).collect();
     out.extend(queue.first().into_iter().chain(queue.last()).map(|&at| Place::Store(at)));
-    let [points, kicks] = [refusals::POINTS, refusals::KICKED].map(|at| memory.words[at] as usize);
+    let [points, kicks] = [word::POINTS, word::KICKED].map(|at| memory.words[at] as usize);
     for i in [1, points / 2, points.saturating_sub(1)] {
         out.extend([Place::Store(refusals::VALUES.at + i), Place::Count(refusals::POSITIONS.at + i)]);
     }
     for i in [1, kicks / 2, kicks.saturating_sub(1)] {
-        out.extend([Place::Count(i), Place::Count(refusals::MARKS.at + i)]);
+        out.extend([refusals::KICKS, refusals::MARKS].map(|part| Place::Count(part.at + i)));
     }
     out.extend([Place::Store(STORE - 1), Place::Count(COUNTS - 1)]);
     out
@@ -360,15 +360,15 @@ fn place(rng: &mut Rng, memory: &Memory) -> Place {
         let Part { at, len } = &parts[rng.below(parts.len() as u64) as usize];
         at + rng.below(*len as u64) as usize
     };
-    let [points, kicks] = [refusals::POINTS, refusals::KICKED].map(|at| memory.words[at].clamp(1, 256));
+    let [points, kicks] = [word::POINTS, word::KICKED].map(|at| memory.words[at].clamp(1, 256));
     match rng.below(16) {
         0..5 => Place::Number(rng.below(NUMBERS as u64) as usize),
         5..10 => Place::Word(rng.below(WORDS as u64) as usize),
         10 => Place::Store(within(rng, &STORE_PARTS)),
         11 => Place::Count(within(rng, &COUNT_PARTS)),
         12 => Place::Step(within(rng, &[refusals::STEPS])),
-        13 => refusals::queue(&memory.words).last().map_or(Place::Word(refusals::QUEUED), Place::Store),
-        14 => Place::Count(rng.below(kicks) as usize),
+        13 => refusals::queue(&memory.words).last().map_or(Place::Word(word::QUEUED), Place::Store),
+        14 => Place::Count(refusals::KICKS.at + rng.below(kicks) as usize),
         _ => {
             let i = rng.below(points) as usize;
             if rng.flag() { Place::Store(refusals::VALUES.at + i) } else { Place::Count(refusals::POSITIONS.at + i) }
@@ -419,47 +419,48 @@ fn made(rng: &mut Rng, beyond: usize) -> Memory {
         store[..STORE].fill(0.0);
     }
     counts[..COUNTS].fill_with(|| word(rng));
-    let Setup { corners, drives, pad, gains, .. } = setup;
-    numbers[0] = f64::from(corners[0]);
+    let mut set = |at: &[usize], to: &[f64]| at.iter().zip(to).for_each(|(&at, &to)| numbers[at] = to);
+    set(&number::CORNERS, &setup.corners.map(f64::from));
     if setup.graded {
-        numbers[1..4].copy_from_slice(&[corners[1], drives[0], drives[1]].map(f64::from));
+        set(&number::DRIVES, &setup.drives.map(f64::from));
     } else {
-        numbers[1] = setup.drive;
+        set(&[number::DRIVE], &[setup.drive]);
     }
-    if let Some(pad) = pad {
-        numbers[4..6].copy_from_slice(&pad.map(f64::from));
+    if let Some(pad) = setup.pad {
+        set(&number::PAD, &pad.map(f64::from));
     }
-    numbers[6..8].copy_from_slice(&gains);
-    numbers[8..11].copy_from_slice(&[f64::from(setup.daylight), f64::from(setup.rain), setup.send]);
-    numbers[84] = unit(rng);
+    set(&number::GAINS, &setup.gains);
+    set(&[number::DAYLIGHT, number::RAIN], &[setup.daylight, setup.rain].map(f64::from));
+    set(&[number::SEND, number::RELEASED], &[setup.send, unit(rng)]);
     let position = |rng: &mut Rng| match rng.below(3) {
         0 => rng.below(20_000),
         1 => END - rng.below(300),
         _ => rng.within(0, END),
     };
-    let flags = [setup.graded, setup.pad.is_some(), setup.darkens, setup.ducked].map(u64::from);
-    words[0] = position(rng);
-    words[1..5].copy_from_slice(&flags);
-    words[refusals::POINTS] = setup.points.len() as u64;
-    for at in [6, 7, 9, 10] {
+    words[word::POSITION] = position(rng);
+    words[word::TONE] = u64::from(setup.graded);
+    words[word::PAD] = u64::from(setup.pad.is_some());
+    words[word::DARKENED] = u64::from(setup.darkens);
+    words[word::DUCKED] = u64::from(setup.ducked);
+    words[word::POINTS] = setup.points.len() as u64;
+    for at in word::STARTS.into_iter().chain(word::LENGTHS) {
         words[at] = position(rng);
     }
-    words[8] = rng.below(2);
-    words[11] = rng.below(2);
+    for at in word::SHAPES {
+        words[at] = rng.below(2);
+    }
     let kicks = setup.kicks.len() as u64;
-    words[refusals::KICKED] = kicks;
-    words[13] = rng.within(0, kicks);
-    words[14] = rng.within(0, kicks);
-    words[refusals::HEAD] = rng.below(883);
-    words[refusals::QUEUED] = rng.within(0, 883);
-    let Part { at, len } = refusals::NEEDS;
-    store[at..at + len].fill_with(|| unit(rng));
-    store[refusals::VALUES.at..][..setup.values.len()].copy_from_slice(&setup.values);
-    counts[..setup.kicks.len()].copy_from_slice(&setup.kicks);
-    counts[refusals::POSITIONS.at..][..setup.points.len()].copy_from_slice(&setup.points);
-    let Part { at, len } = refusals::STEPS;
-    counts[at..at + len].fill_with(|| rng.pick(&[0, 1, UNIT, UNIT - 1, UNIT / 2]));
-    memory.words[refusals::GAIN] = total(&memory);
+    words[word::KICKED] = kicks;
+    words[word::REACHED] = rng.within(0, kicks);
+    words[word::DUCKING] = rng.within(0, kicks);
+    words[word::HEAD] = rng.below(883);
+    words[word::QUEUED] = rng.within(0, 883);
+    refusals::NEEDS.of_mut(store).fill_with(|| unit(rng));
+    refusals::VALUES.of_mut(store)[..setup.values.len()].copy_from_slice(&setup.values);
+    refusals::KICKS.of_mut(counts)[..setup.kicks.len()].copy_from_slice(&setup.kicks);
+    refusals::POSITIONS.of_mut(counts)[..setup.points.len()].copy_from_slice(&setup.points);
+    refusals::STEPS.of_mut(counts).fill_with(|| rng.pick(&[0, 1, UNIT, UNIT - 1, UNIT / 2]));
+    memory.words[word::GAIN] = total(&memory);
     memory
 }
 
@@ -523,7 +524,7 @@ fn each_argument(rng: &mut Rng, bench: &mut Bench) {
         let strip = good(rng, &setup, 100, 1);
         let case = |bench: &mut Bench, lent: [usize; 4], position: Option<u64>, call: &Call| {
             bench.memory.become_as(&strip);
-            bench.memory.words[refusals::POSITION] = position.unwrap_or(100);
+            bench.memory.words[word::POSITION] = position.unwrap_or(100);
             bench.call(lent, call);
         };
         let samples = vec![0.5, 1024.0, -1024.0];
@@ -704,9 +705,17 @@ fn anything(rng: &mut Rng, bench: &mut Bench) {
             2 => scatter(rng, &mut bench.memory.counts, word),
             3 => scatter(rng, &mut bench.memory.store, number),
             // the filters' numbers and the lines, of which 4 asks nothing
-            4 => scatter(rng, &mut bench.memory.numbers[15..84], number),
-            5 => scatter(rng, &mut bench.memory.store[..refusals::NEEDS.at], number),
-            6 => bench.memory.words[refusals::POSITION] = END - rng.below(200),
+            4 => {
+                for filters in number::FILTERS {
+                    scatter(rng, &mut bench.memory.numbers[filters], number);
+                }
+            }
+            5 => {
+                for line in [refusals::PLATE, refusals::WARP] {
+                    scatter(rng, line.of_mut(&mut bench.memory.store), number);
+                }
+            }
+            6 => bench.memory.words[word::POSITION] = END - rng.below(200),
             _ => {}
         }
         let has = bench.memory.lengths();

@@ -17,33 +17,95 @@ pub struct Part {
 }
 
 impl Part {
+    const fn first(len: usize) -> Self {
+        Self { at: 0, len }
+    }
+
+    /// The list behind this one.
+    const fn then(&self, len: usize) -> Self {
+        Self { at: self.at + self.len, len }
+    }
+
     pub fn of<'a, T>(&self, store: &'a [T]) -> &'a [T] {
         &store[self.at..][..self.len]
     }
+
+    pub fn of_mut<'a, T>(&self, store: &'a mut [T]) -> &'a mut [T] {
+        &mut store[self.at..][..self.len]
+    }
 }
 
-pub const LINES: Part = Part { at: 0, len: 64 + 47_104 };
-pub const NEEDS: Part = Part { at: 47_168, len: 883 };
-pub const WAITING: Part = Part { at: 48_051, len: 440 };
-pub const VALUES: Part = Part { at: 48_491, len: 256 };
+/// The sample store: the bus's lists, then the lane's.
+pub const PLATE: Part = Part::first(47_104);
+pub const NEEDS: Part = PLATE.then(883);
+pub const WAITING: Part = NEEDS.then(440);
+pub const WARP: Part = WAITING.then(64);
+pub const VALUES: Part = WARP.then(256);
 
-pub const KICKS: Part = Part { at: 0, len: 1024 };
-pub const MARKS: Part = Part { at: 1024, len: 1024 };
-pub const FRAMES: Part = Part { at: 2048, len: 883 };
-pub const STEPS: Part = Part { at: 2931, len: 221 };
-pub const POSITIONS: Part = Part { at: 3152, len: 256 };
+/// The count store: the bus's lists, then the lane's.
+pub const FRAMES: Part = Part::first(883);
+pub const STEPS: Part = FRAMES.then(221);
+pub const KICKS: Part = STEPS.then(1024);
+pub const MARKS: Part = KICKS.then(1024);
+pub const POSITIONS: Part = MARKS.then(256);
 
-/// Of the packed strip, the words and the number that tests set on purpose.
-pub const POSITION: usize = 0;
-pub const POINTS: usize = 5;
-pub const KICKED: usize = 12;
-pub const GAIN: usize = 15;
-pub const HEAD: usize = 16;
-pub const QUEUED: usize = 17;
+/// Where the packed strip's numbers stand: the bus's, then the lane's.
+pub mod number {
+    use std::ops::Range;
 
-/// Where the packed strip has a filter's four past values, and a one-pole's one.
-const PASTS: [usize; 7] = [20, 29, 38, 47, 56, 71, 80];
-const OUTPUTS: [usize; 3] = [61, 63, 65];
+    const BUS: usize = 0;
+    pub const RELEASED: usize = BUS + 22;
+
+    const LANE: usize = 23;
+    /// Night and day; a fixed tone has the first, and its drive where the second would be.
+    pub const CORNERS: [usize; 2] = [LANE, LANE + 1];
+    pub const DRIVE: usize = LANE + 1;
+    pub const DRIVES: [usize; 2] = [LANE + 2, LANE + 3];
+    /// Swell rate and depth.
+    pub const PAD: [usize; 2] = [LANE + 4, LANE + 5];
+    pub const GAINS: [usize; 2] = [LANE + 6, LANE + 7];
+    pub const DAYLIGHT: usize = LANE + 8;
+    pub const RAIN: usize = LANE + 9;
+    pub const SEND: usize = LANE + 10;
+
+    /// The setup and the ramps' ends.
+    pub const SET: Range<usize> = LANE..LANE + 15;
+
+    /// What the filters have, by which no ground goes.
+    pub const FILTERS: [Range<usize>; 2] = [BUS..RELEASED, SET.end..SET.end + 47];
+
+    /// Where a section begins, five factors and then four past values: the plate's two highpasses; the tone's two, the bump,
+    /// the rolloff's two.
+    pub const SECTIONS: [usize; 7] =
+        [BUS + 4, BUS + 13, SET.end, SET.end + 9, SET.end + 18, SET.end + 27, SET.end + 36];
+
+    /// Where a one-pole begins, its pole and then its last output: the tank's two; the tilt.
+    pub const POLES: [usize; 3] = [BUS, BUS + 2, SET.end + 45];
+}
+
+/// Where its words stand: the position, the bus's, then the lane's.
+pub mod word {
+    pub const POSITION: usize = 0;
+
+    const BUS: usize = 1;
+    pub const GAIN: usize = BUS;
+    pub const HEAD: usize = BUS + 1;
+    pub const QUEUED: usize = BUS + 2;
+
+    const LANE: usize = 4;
+    pub const TONE: usize = LANE;
+    pub const PAD: usize = LANE + 1;
+    pub const DARKENED: usize = LANE + 2;
+    pub const DUCKED: usize = LANE + 3;
+    pub const POINTS: usize = LANE + 4;
+    /// Daylight's and rain's.
+    pub const STARTS: [usize; 2] = [LANE + 5, LANE + 8];
+    pub const LENGTHS: [usize; 2] = [LANE + 6, LANE + 9];
+    pub const SHAPES: [usize; 2] = [LANE + 7, LANE + 10];
+    pub const KICKED: usize = LANE + 11;
+    pub const REACHED: usize = LANE + 12;
+    pub const DUCKING: usize = LANE + 13;
+}
 
 /// A ground: its number, its name, and whether it holds.
 pub struct Ground(pub u64, pub &'static str, pub bool);
@@ -113,44 +175,45 @@ impl Grounds {
     /// "The strip is malformed: ..", and what the packed one adds: a tag or flag above 1, or no f32 where one belongs.
     fn strip(&mut self, memory: &Memory) {
         let Memory { numbers, words, store, counts } = memory;
-        self.put(4, "position", words[POSITION] > END);
-        self.put(4, "daylight's start", words[6] > END);
-        self.put(4, "daylight's length", words[7] > END);
-        self.put(4, "rain's start", words[9] > END);
-        self.put(4, "rain's length", words[10] > END);
-        self.put(4, "the kick reached", words[13] > words[KICKED]);
-        self.put(4, "the kick that ducks", words[14] > words[KICKED]);
-        self.put(4, "the queue's head", words[HEAD] >= 883);
-        self.put(4, "queued needs", words[QUEUED] > 883);
+        self.put(4, "position", words[word::POSITION] > END);
+        self.put(4, "daylight's start", words[word::STARTS[0]] > END);
+        self.put(4, "daylight's length", words[word::LENGTHS[0]] > END);
+        self.put(4, "rain's start", words[word::STARTS[1]] > END);
+        self.put(4, "rain's length", words[word::LENGTHS[1]] > END);
+        self.put(4, "the kick reached", words[word::REACHED] > words[word::KICKED]);
+        self.put(4, "the kick that ducks", words[word::DUCKING] > words[word::KICKED]);
+        self.put(4, "the queue's head", words[word::HEAD] >= 883);
+        self.put(4, "queued needs", words[word::QUEUED] > 883);
         self.put(4, "a need", queue(words).any(|at| !within(store[at], 0.0, 1.0)));
-        self.put(4, "released gain", !within(numbers[84], 0.0, 1.0));
+        self.put(4, "released gain", !within(numbers[number::RELEASED], 0.0, 1.0));
         let steps = STEPS.of(counts);
         self.put(4, "a step", steps.iter().any(|&step| step > UNIT));
-        self.put(4, "gain count", u128::from(words[GAIN]) != steps.iter().map(|&step| u128::from(step)).sum());
+        self.put(4, "gain count", u128::from(words[word::GAIN]) != steps.iter().map(|&step| u128::from(step)).sum());
         let setup = kept(memory);
         self.numbers(4, &setup);
         self.lists(4, &setup);
-        self.put(4, "the tone's tag", words[1] > 1);
-        self.put(4, "the pad's tag", words[2] > 1);
-        self.put(4, "rain-darkened", words[3] > 1);
-        self.put(4, "ducked", words[4] > 1);
-        self.put(4, "daylight's shape", words[8] > 1);
-        self.put(4, "rain's shape", words[11] > 1);
+        self.put(4, "the tone's tag", words[word::TONE] > 1);
+        self.put(4, "the pad's tag", words[word::PAD] > 1);
+        self.put(4, "rain-darkened", words[word::DARKENED] > 1);
+        self.put(4, "ducked", words[word::DUCKED] > 1);
+        self.put(4, "daylight's shape", words[word::SHAPES[0]] > 1);
+        self.put(4, "rain's shape", words[word::SHAPES[1]] > 1);
         let long = |at: usize| f64::from(numbers[at] as f32) != numbers[at];
-        self.put(4, "corner no f32", long(0));
-        self.put(4, "day corner no f32", words[1] == 1 && long(1));
-        self.put(4, "night drive no f32", words[1] == 1 && long(2));
-        self.put(4, "day drive no f32", words[1] == 1 && long(3));
-        self.put(4, "swell rate no f32", words[2] == 1 && long(4));
-        self.put(4, "swell depth no f32", words[2] == 1 && long(5));
-        self.put(4, "daylight no f32", long(8));
-        self.put(4, "rain no f32", long(9));
+        let [graded, pad] = [word::TONE, word::PAD].map(|at| words[at] == 1);
+        self.put(4, "corner no f32", long(number::CORNERS[0]));
+        self.put(4, "day corner no f32", graded && long(number::CORNERS[1]));
+        self.put(4, "night drive no f32", graded && long(number::DRIVES[0]));
+        self.put(4, "day drive no f32", graded && long(number::DRIVES[1]));
+        self.put(4, "swell rate no f32", pad && long(number::PAD[0]));
+        self.put(4, "swell depth no f32", pad && long(number::PAD[1]));
+        self.put(4, "daylight no f32", long(number::DAYLIGHT));
+        self.put(4, "rain no f32", long(number::RAIN));
     }
 }
 
 /// The places of the needs that are queued, if the queue's numbers are any.
 pub fn queue(words: &[u64]) -> impl Iterator<Item = usize> {
-    let (head, queued) = (words[HEAD], words[QUEUED]);
+    let (head, queued) = (words[word::HEAD], words[word::QUEUED]);
     let many = if head < 883 && queued <= 883 { queued } else { 0 };
     (0..many).map(move |i| NEEDS.at + ((head + i) % 883) as usize)
 }
@@ -165,20 +228,20 @@ pub fn kept(memory: &Memory) -> Setup {
     let Memory { numbers, words, store, counts } = memory;
     let short = |at: usize| numbers[at] as f32;
     Setup {
-        graded: words[1] != 0,
-        corners: [short(0), short(1)],
-        drives: [short(2), short(3)],
-        drive: numbers[1],
-        pad: (words[2] != 0).then(|| [short(4), short(5)]),
-        darkens: words[3] != 0,
-        gains: [numbers[6], numbers[7]],
-        ducked: words[4] != 0,
-        daylight: short(8),
-        rain: short(9),
-        send: numbers[10],
-        points: used(POSITIONS.of(counts), words[POINTS], 77),
-        values: used(VALUES.of(store), words[POINTS], 0.5),
-        kicks: used(KICKS.of(counts), words[KICKED], 77),
+        graded: words[word::TONE] != 0,
+        corners: number::CORNERS.map(short),
+        drives: number::DRIVES.map(short),
+        drive: numbers[number::DRIVE],
+        pad: (words[word::PAD] != 0).then(|| number::PAD.map(short)),
+        darkens: words[word::DARKENED] != 0,
+        gains: number::GAINS.map(|at| numbers[at]),
+        ducked: words[word::DUCKED] != 0,
+        daylight: short(number::DAYLIGHT),
+        rain: short(number::RAIN),
+        send: numbers[number::SEND],
+        points: used(POSITIONS.of(counts), words[word::POINTS], 77),
+        values: used(VALUES.of(store), words[word::POINTS], 0.5),
+        kicks: used(KICKS.of(counts), words[word::KICKED], 77),
     }
 }
 
@@ -218,7 +281,7 @@ fn of_strip(memory: &Memory, lent: [usize; 4]) -> Grounds {
 /// Run, with outputs of the given lengths.
 pub fn run(memory: &Memory, lent: [usize; 4], samples: &[f64], [frames, gains]: [usize; 2]) -> Grounds {
     let mut grounds = of_strip(memory, lent);
-    let end = u128::from(memory.words[POSITION]) + samples.len() as u128;
+    let end = u128::from(memory.words[word::POSITION]) + samples.len() as u128;
     grounds.put(5, "frame output", frames != 2 * samples.len());
     grounds.put(5, "count output", gains != samples.len());
     grounds.put(6, "past the end", end > u128::from(END));
@@ -243,6 +306,7 @@ pub fn rest(memory: &Memory, lent: [usize; 4]) -> Grounds {
 /// filters hold only zeros (-0 counts)".
 pub fn rests(memory: &Memory) -> bool {
     let Memory { numbers, store, .. } = memory;
-    let past = PASTS.iter().flat_map(|&at| &numbers[at..at + 4]).chain(OUTPUTS.iter().map(|&at| &numbers[at]));
-    past.chain(LINES.of(store)).all(|&x| x == 0.0)
+    let past = number::SECTIONS.iter().flat_map(|&at| &numbers[at + 5..at + 9]);
+    let past = past.chain(number::POLES.iter().map(|&at| &numbers[at + 1]));
+    past.chain(WARP.of(store)).chain(PLATE.of(store)).all(|&x| x == 0.0)
 }
