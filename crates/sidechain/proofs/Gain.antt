@@ -8,10 +8,11 @@ use borrow.Author.Tests.{leb-true, ltb-true, lt-ltb, le-ltb}
 use Rattle.casts.specs.Arithmetic.{_⊕_, _⊖_, _⊗_, _⊘_, whole, one}
 use Rattle.sidechain.specs.declared.DuckRate.{DuckRate}
 use Rattle.sidechain.specs.Sidechain.{span, sidechainGain, releases}
+use Rattle.sidechain.specs.Kept.{attackGain}
 
 module _ (r : DuckRate) (since : ℕ) where
-  pub gain-attacking : since < r .attack → one ⊖ (one ⊖ r .floor) ⊗ whole since ⊘ whole (r .attack) ≡ sidechainGain r since
-  unfolding sidechainGain
+  pub gain-attacking : since < r .attack → attackGain (r .floor) (r .attack) since ≡ sidechainGain r since
+  unfolding sidechainGain attackGain
   gain-attacking h = rw (lt-ltb since (r .attack) h)
 
   pub gain-releasing : r .attack ≤ since → since - r .attack < r .release → r .floor ⊕ (one ⊖ r .floor) ⊗ whole (since - r .attack) ⊘ whole (r .release) ≡ sidechainGain r since

@@ -1,2 +1,3 @@
 mod Gain
 mod Placed
+mod Relates

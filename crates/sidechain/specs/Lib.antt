@@ -1,2 +1,3 @@
 pub mod Sidechain
+pub mod Kept
 pub mod Cases

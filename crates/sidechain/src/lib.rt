@@ -1,10 +1,12 @@
 // A kick's gain (whole.rs `sidechain_gain`): at one sample, at two neighbours at once, and of two kicks at once. Uses casts, and no rate
-// by its number.
+// by its number but in the table.
 ghost use mathlib.Core.Bool.{true};
 ghost use mathlib.Core.Path.{_≡_};
 ghost use Prim.Native.Nat.{_+_, _<_};
 ghost use Rattle.casts.specs.Arithmetic.{_⊕_, _⊖_, _⊗_, _⊘_, one, whole};
 ghost use Rattle.sidechain.specs.Sidechain.{sidechainGain, releases};
+
+mod table;
 
 // What of a duck depends on the rate: the attack and the release in samples, and the gain at the bottom.
 pub struct DuckRate {
@@ -37,11 +39,15 @@ fn counted(n: u64) -> f64
     std::num::nearest_u64_to_f64(n)
 }
 
-// The gain of a kick that attacks, so many samples since the kick.
-fn attacking(rate: DuckRate, since: f64) -> f64
-    ensures { λ r. ⌜ r ≡ one ⊖ (one ⊖ rate .floor) ⊗ since ⊘ whole (rate .attack) ⌝ }
+// The gain of a kick that attacks, so many samples since the kick: from the table where the rate has one.
+fn attacking(rate: DuckRate, since: u64) -> f64
+    requires { ⌜ since < rate .attack ⌝ }
+    ensures { λ r. ⌜ r ≡ sidechainGain rate since ⌝ }
 {
-    1.0 - (1.0 - rate.floor) * since / counted(rate.attack)
+    if table::tabled(rate) {
+        return table::attack_441(since);
+    }
+    1.0 - (1.0 - rate.floor) * counted(since) / counted(rate.attack)
 }
 
 // The gain of a kick that releases, so many samples since its attack.
@@ -55,7 +61,7 @@ pub fn sidechain_gain(rate: DuckRate, since: u64) -> f64
     ensures { λ r. ⌜ r ≡ sidechainGain rate since ⌝ }
 {
     if since < rate.attack {
-        return attacking(rate, counted(since));
+        return attacking(rate, since);
     }
     let up = since - rate.attack;
     if up < rate.release {
@@ -65,16 +71,17 @@ pub fn sidechain_gain(rate: DuckRate, since: u64) -> f64
 }
 
 // A kick's gain at a sample and at the next. Where it attacks at both, or releases at both, one branch has the two, for the
-// compiler to divide them by one instruction.
+// compiler to read or to divide them by one instruction.
 pub fn sidechain_gains(rate: DuckRate, since: u64) -> Gains
     requires { ⌜ since + 1 < 4294967296 ⌝ }
     ensures { λ r. ⌜ r .at ≡ sidechainGain rate since ⌝ }
     ensures { λ r. ⌜ r .after ≡ sidechainGain rate (since + 1) ⌝ }
 {
-    if since + 1 < rate.attack {
+    let next = since + 1;
+    if next < rate.attack {
         return Gains {
-            at: attacking(rate, short(since)),
-            after: attacking(rate, short(since + 1)),
+            at: attacking(rate, since),
+            after: attacking(rate, next),
         };
     }
     if rate.attack <= since {
@@ -88,7 +95,7 @@ pub fn sidechain_gains(rate: DuckRate, since: u64) -> Gains
     }
     Gains {
         at: sidechain_gain(rate, since),
-        after: sidechain_gain(rate, since + 1),
+        after: sidechain_gain(rate, next),
     }
 }
 
