@@ -30,6 +30,9 @@ use setup::{RATE, Setup};
 /// Two seconds.
 const SAMPLES: usize = 88_200;
 
+/// The samples of an attack.
+const ATTACK: usize = 441;
+
 /// Samples from one latch to the next.
 const LATCHED: usize = 4096;
 
@@ -79,6 +82,11 @@ fn plain() -> Setup {
 /// As many kicks as a strip takes, all within the reach of one.
 fn crowded() -> Setup {
     Setup { kicks: (0..1024).map(|k| 8 * k).collect(), ..lane(false) }
+}
+
+/// As many kicks, each in its attack from its own sample on until the last of `ATTACK`.
+fn attacking() -> Setup {
+    Setup { kicks: (0..1024).map(|k| k * ATTACK as u64 / 1024).collect(), ..lane(false) }
 }
 
 fn tape(name: &str, setup: &Setup, x: &[f64], size: usize, rounds: u64) {
@@ -266,10 +274,12 @@ fn main() {
         strip("everything, moving", &lane(true), true, &x, size, rounds);
         strip("plain, fixed", &plain(), false, &x, size, rounds);
         strip("1,024 kicks", &crowded(), false, &x[..8192], size, rounds);
+        strip("1,024 kicks in attack", &attacking(), false, &x[..ATTACK], size, rounds);
     }
     alone("everything, moving", &lane(true), true, &x, rounds);
     alone("plain, fixed", &plain(), false, &x, rounds);
     alone("1,024 kicks", &crowded(), false, &x[..8192], rounds);
+    alone("1,024 kicks in attack", &attacking(), false, &x[..ATTACK], rounds);
     for size in [64, 1024] {
         tape("tape", &lane(false), &x, size, rounds);
         tape("tape swept", &lane(true), &x, size, rounds);

@@ -59,7 +59,7 @@ impl TapeRate {
 
     pub const RELEASE: u64 = 8379;
 
-    pub const FLOOR: f64 = 0.5011872336272724;
+    pub const FLOOR: f64 = sidechain::FLOOR;
 
     fn bump() -> Coefficients
         ensures { λ r. ⌜ r ≡ bandpassAt 44100 ⌝ }

@@ -15,6 +15,9 @@ pub struct DuckRate {
     pub floor: f64,
 }
 
+// The floor of the strip's duck, POW(10, -6/20).
+pub const FLOOR: f64 = 0.5011872336272724;
+
 // The gains at a sample and at the one after it, or of a kick and of the one after it.
 pub struct Gains {
     pub at: f64,

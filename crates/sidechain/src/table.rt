@@ -4,9 +4,6 @@ ghost use Prim.Native.Nat.{_<_};
 ghost use Rattle.sidechain.specs.Kept.{attackGain, stripFloor, tabled};
 use crate::DuckRate;
 
-// The floor that the table is at: the strip's.
-pub const FLOOR: f64 = 0.5011872336272724;
-
 // Entry j is the gain j samples since a kick.
 const ATTACK_441: [f64; 441] = [
     1.0,
@@ -459,7 +456,7 @@ pub fn tabled(rate: DuckRate) -> bool
     if rate.attack != 441 {
         return false;
     }
-    casts::bits_of_f64(rate.floor) == casts::bits_of_f64(FLOOR)
+    casts::bits_of_f64(rate.floor) == casts::bits_of_f64(crate::FLOOR)
 }
 
 pub fn attack_441(j: u64) -> f64

@@ -4,6 +4,7 @@ use crate::report::{Budget, Report};
 use crate::rng::Rng;
 
 pub mod abuse;
+pub mod attack;
 pub mod ceiling;
 pub mod cos;
 pub mod delay;
@@ -54,6 +55,7 @@ pub const ALL: &[(&str, u64, Run)] = &[
     ("ramp", MILLION, ramp::run),
     ("sweep", MILLION, sweep::run),
     ("duck", LISTS, duck::run),
+    ("attack", LISTS, attack::run),
     ("tape", LISTS, tape::run),
     ("plate", LISTS, plate::run),
     ("ceiling", LISTS, ceiling::run),

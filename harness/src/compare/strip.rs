@@ -29,10 +29,10 @@ pub enum Call {
 
 /// Elements lent past the lengths that 01 names, which no call may touch.
 #[derive(Clone, Debug)]
-struct Case {
-    setup: Setup,
-    beyond: usize,
-    calls: Vec<Call>,
+pub struct Case {
+    pub setup: Setup,
+    pub beyond: usize,
+    pub calls: Vec<Call>,
 }
 
 /// What an output holds before any call.

@@ -11,10 +11,10 @@ use crate::shrink::{Shrink, each_without};
 use crate::signal::{self, Signal};
 
 #[derive(Clone, Debug)]
-struct Case {
-    setup: Setup,
-    samples: Signal,
-    calls: Vec<Call>,
+pub struct Case {
+    pub setup: Setup,
+    pub samples: Signal,
+    pub calls: Vec<Call>,
 }
 
 /// A ramp's length: none, short, longer than the signal, or the longest.
