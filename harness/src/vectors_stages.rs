@@ -170,9 +170,11 @@ fn tones(rng: &mut Rng) {
         }
     }
     let [attack, release] = [SIDECHAIN_ATTACK_S, SIDECHAIN_RELEASE_S].map(|s| samples_at(s, RATE));
+    let floor = gain_of_db(f64::from(SIDECHAIN_DB));
+    let side = |since: u64| line("side", &[since], bits(sidechain_gain(since as usize, floor, attack, release)));
+    (0..attack as u64).for_each(&side);
     for i in 0..LINES {
-        let since = [0, 440, 441, 442, 8819, 8820, 1 << 32].get(i as usize).copied().unwrap_or(rng.below(9000));
-        line("side", &[since], bits(sidechain_gain(since as usize, gain_of_db(f64::from(SIDECHAIN_DB)), attack, release)));
+        side([441, 442, 8819, 8820, 1 << 32].get(i as usize).copied().unwrap_or(rng.below(9000)));
     }
 }
 

@@ -89,6 +89,10 @@ module _ (r : DuckRate) (k n : ℕ) where
     | no i ↦ le-leb (r .release) (n - k - r .attack) (omega arith) ∙ sym (le-leb (k + span r) n (omega arith))
   ]
 
+-- a kick whose attack is over
+pub attacked-says : (attack kick n : ℕ) → leb kick n && leb attack (n - kick) ≡ true → (kick ≤ n) × (attack ≤ n - kick)
+attacked-says attack kick n e = let a = and-eq-true-iff (leb kick n) _ .0 e in (leb-true kick n (a .0), leb-true attack (n - kick) (a .1))
+
 -- a kick that sounds
 pub sounds-says : (r : DuckRate) (mark kick n : ℕ) → isMark mark && (leb kick n && releases r (n - kick)) ≡ true → (isMark mark ≡ true) × (kick ≤ n) × (releases r (n - kick) ≡ true)
 sounds-says r mark kick n e =

@@ -89,6 +89,16 @@ fn has_released(rate: DuckRate, kick: u64, n: u64) -> bool
     rate.release <= since - rate.attack
 }
 
+// Whether a kick's attack is over at n.
+fn has_attacked(rate: DuckRate, kick: u64, n: u64) -> bool
+    ensures { λ r. ⌜ r ≡ (leb kick n && leb (rate .attack) (n - kick)) ⌝ }
+{
+    if n < kick {
+        return false;
+    }
+    rate.attack <= n - kick
+}
+
 // Whether a kick is marked and releases at n.
 fn sounds(rate: DuckRate, kick: u64, mark: u64, n: u64) -> bool
     ensures { λ r. ⌜ r ≡ (isMark mark && (leb kick n && releases rate (n - kick))) ⌝ }
@@ -121,9 +131,9 @@ fn times_two(rate: DuckRate, gain: f64, first: u64, second: u64) -> f64
     gain * of.at * of.after
 }
 
-// One kick more in the products of two samples.
+// One kick more in the products of two samples, past its attack.
 fn times_gains(rate: DuckRate, gains: Gains, since: u64, mark: u64) -> Gains
-    requires { ⌜ since + 1 < lastPosition ⌝ }
+    requires { ⌜ (rate .attack ≤ since) × (since + 1 < lastPosition) ⌝ }
     ensures { λ r. ⌜ r .at ≡ timesGain rate (gains .at) since (isMark mark) ⌝ }
     ensures { λ r. ⌜ r .after ≡ timesGain rate (gains .after) (since + 1) (isMark mark) ⌝ }
 {
@@ -217,7 +227,8 @@ fn product_by_two(rate: DuckRate, counts: &[u64], count: usize, from: usize, n: 
     product(rate, counts, count, c, n, gain)
 }
 
-// The products at n and at n + 1, side by side: a product's multiplications wait for each other, those of two do not.
+// The products at n and at n + 1, side by side while the kicks are past their attacks: a product's multiplications wait for each other, those of
+// two do not. From the first kick that is not, each sample goes on by itself: an attack's gain is read and not divided for, so two gain nothing.
 fn products(rate: DuckRate, counts: &[u64], count: usize, from: usize, n: u64) -> Gains
     requires { ⌜ (duckCounts ≤ length (now counts)) × (count ≤ mostKicks) × (from ≤ count) × (n + 1 < lastPosition) ⌝ }
     ensures { λ g. ⌜ g .at ≡ timesUntil rate n one (drop from (kicksIn count (now (counts .entry)))) (drop from (marksIn count (now (counts .entry)))) ⌝ }
@@ -230,9 +241,9 @@ fn products(rate: DuckRate, counts: &[u64], count: usize, from: usize, n: u64) -
     let mut c = from;
     while c < count {
         let kick = counts[c];
-        if n < kick {
+        if !has_attacked(rate, kick, n) {
             return Gains {
-                at: gains.at,
+                at: product(rate, counts, count, c, n, gains.at),
                 after: product(rate, counts, count, c, n + 1, gains.after),
             };
         }

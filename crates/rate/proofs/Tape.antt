@@ -6,7 +6,7 @@ use lib.Ieee.{binary64, ofBits, toBits, add, sub, mul, div, neg, le, lt, ofInt, 
 use Rattle.casts.specs.Cast.{floored, twoTo}
 use Rattle.elementary.specs.Elementary.{EXP, LN, POW, down}
 use Rattle.stream.specs.Stream.{gainOfDb}
-use Rattle.sidechain.specs.Kept.{tabled}
+use Rattle.attack.specs.Kept.{tabled}
 use Rattle.delay.specs.Delay.{ringOf, powerFrom}
 use Rattle.rate.specs.Lengths.{ceilOf, rounded, samplesAt}
 use Rattle.rate.specs.Tape.{warpOf, wowOf, flutterOf, duckRate, tapeRate, TapeUsable}
@@ -28,7 +28,7 @@ pub duck-44100 : duckRate 44100 ≡ record { attack = 441; release = 8379; floor
 unfolding duckRate samplesAt rounded gainOfDb POW EXP LN down floored twoTo round ofBits toBits add sub mul div neg le lt ofInt toUnsigned toSigned
 duck-44100 = refl
 
--- 02, E2: "Replace it by a table of 441 gains"
-pub tabled-44100 : tabled (duckRate 44100) ≡ true
+-- 02, E2: the strip's attack has the table
+pub tabled-44100 : tabled (duckRate 44100 .floor) (duckRate 44100 .attack) ≡ true
 unfolding tabled round ofBits toBits
 tabled-44100 = rw duck-44100

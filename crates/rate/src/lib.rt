@@ -1,6 +1,6 @@
 // The rate's own type: what depends on the rate, for each stage, made by a constructor out of constants.
 // places.rt has how long each part of the stores is.
-// Uses ranges, biquad, delay, sidechain and duck for their types and numbers; the definitions in specs/ use casts, elementary, stream and onepole too.
+// Uses ranges, biquad, delay, attack, sidechain and duck for their types and numbers; the definitions in specs/ use casts, elementary, stream and onepole too.
 ghost use mathlib.Core.Path.{_≡_};
 ghost use Rattle.casts.specs.Arithmetic.{whole};
 ghost use Rattle.biquad.specs.Cookbook.{lowpassAt, bandpassAt, butterQ};
@@ -59,7 +59,7 @@ impl TapeRate {
 
     pub const RELEASE: u64 = 8379;
 
-    pub const FLOOR: f64 = sidechain::FLOOR;
+    pub const FLOOR: f64 = attack::FLOOR;
 
     fn bump() -> Coefficients
         ensures { λ r. ⌜ r ≡ bandpassAt 44100 ⌝ }

@@ -6,9 +6,9 @@ use mathlib.Core.Bool.{true, and-eq-true-iff}
 use lib.Dec.{leb, ltb}
 use borrow.Author.Tests.{leb-true, ltb-true, lt-ltb, le-ltb}
 use Rattle.casts.specs.Arithmetic.{_⊕_, _⊖_, _⊗_, _⊘_, whole, one}
+use Rattle.attack.specs.Machine.{attackGain}
 use Rattle.sidechain.specs.declared.DuckRate.{DuckRate}
 use Rattle.sidechain.specs.Sidechain.{span, sidechainGain, releases}
-use Rattle.sidechain.specs.Kept.{attackGain}
 
 module _ (r : DuckRate) (since : ℕ) where
   pub gain-attacking : since < r .attack → attackGain (r .floor) (r .attack) since ≡ sidechainGain r since

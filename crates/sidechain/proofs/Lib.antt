@@ -1,3 +1,2 @@
 mod Gain
 mod Placed
-mod Relates

@@ -1,3 +1,2 @@
 pub mod Sidechain
-pub mod Kept
 pub mod Cases

@@ -1,12 +1,10 @@
-// A kick's gain (whole.rs `sidechain_gain`): at one sample, at two neighbours at once, and of two kicks at once. Uses casts, and no rate
-// by its number but in the table.
+// A kick's gain (whole.rs `sidechain_gain`): at one sample, at two neighbours at once, and of two kicks at once. Uses casts and attack, and no
+// rate by its number.
 ghost use mathlib.Core.Bool.{true};
 ghost use mathlib.Core.Path.{_≡_};
-ghost use Prim.Native.Nat.{_+_, _<_};
+ghost use Prim.Native.Nat.{_+_, _<_, _≤_};
 ghost use Rattle.casts.specs.Arithmetic.{_⊕_, _⊖_, _⊗_, _⊘_, one, whole};
 ghost use Rattle.sidechain.specs.Sidechain.{sidechainGain, releases};
-
-mod table;
 
 // What of a duck depends on the rate: the attack and the release in samples, and the gain at the bottom.
 pub struct DuckRate {
@@ -14,9 +12,6 @@ pub struct DuckRate {
     pub release: u64,
     pub floor: f64,
 }
-
-// The floor of the strip's duck, POW(10, -6/20).
-pub const FLOOR: f64 = 0.5011872336272724;
 
 // The gains at a sample and at the one after it, or of a kick and of the one after it.
 pub struct Gains {
@@ -42,17 +37,6 @@ fn counted(n: u64) -> f64
     std::num::nearest_u64_to_f64(n)
 }
 
-// The gain of a kick that attacks, so many samples since the kick: from the table where the rate has one.
-fn attacking(rate: DuckRate, since: u64) -> f64
-    requires { ⌜ since < rate .attack ⌝ }
-    ensures { λ r. ⌜ r ≡ sidechainGain rate since ⌝ }
-{
-    if table::tabled(rate) {
-        return table::attack_441(since);
-    }
-    1.0 - (1.0 - rate.floor) * counted(since) / counted(rate.attack)
-}
-
 // The gain of a kick that releases, so many samples since its attack.
 fn releasing(rate: DuckRate, up: f64) -> f64
     ensures { λ r. ⌜ r ≡ rate .floor ⊕ (one ⊖ rate .floor) ⊗ up ⊘ whole (rate .release) ⌝ }
@@ -60,45 +44,42 @@ fn releasing(rate: DuckRate, up: f64) -> f64
     rate.floor + (1.0 - rate.floor) * up / counted(rate.release)
 }
 
-pub fn sidechain_gain(rate: DuckRate, since: u64) -> f64
-    ensures { λ r. ⌜ r ≡ sidechainGain rate since ⌝ }
+// The gain of a kick past its attack, so many samples since the attack.
+fn past_attack(rate: DuckRate, up: u64) -> f64
+    ensures { λ r. ⌜ r ≡ sidechainGain rate (rate .attack + up) ⌝ }
 {
-    if since < rate.attack {
-        return attacking(rate, since);
-    }
-    let up = since - rate.attack;
     if up < rate.release {
         return releasing(rate, counted(up));
     }
     1.0
 }
 
-// A kick's gain at a sample and at the next. Where it attacks at both, or releases at both, one branch has the two, for the
-// compiler to read or to divide them by one instruction.
+pub fn sidechain_gain(rate: DuckRate, since: u64) -> f64
+    ensures { λ r. ⌜ r ≡ sidechainGain rate since ⌝ }
+{
+    if since < rate.attack {
+        return attack::attack_gain(rate.floor, rate.attack, since);
+    }
+    past_attack(rate, since - rate.attack)
+}
+
+// The gain of a kick past its attack at a sample and at the next. Where it releases at both, one branch has the two, for the compiler to
+// divide them by one instruction.
 pub fn sidechain_gains(rate: DuckRate, since: u64) -> Gains
-    requires { ⌜ since + 1 < 4294967296 ⌝ }
+    requires { ⌜ (rate .attack ≤ since) × (since + 1 < 4294967296) ⌝ }
     ensures { λ r. ⌜ r .at ≡ sidechainGain rate since ⌝ }
     ensures { λ r. ⌜ r .after ≡ sidechainGain rate (since + 1) ⌝ }
 {
-    let next = since + 1;
-    if next < rate.attack {
+    let up = since - rate.attack;
+    if up + 1 < rate.release {
         return Gains {
-            at: attacking(rate, since),
-            after: attacking(rate, next),
+            at: releasing(rate, short(up)),
+            after: releasing(rate, short(up + 1)),
         };
     }
-    if rate.attack <= since {
-        let up = since - rate.attack;
-        if up + 1 < rate.release {
-            return Gains {
-                at: releasing(rate, short(up)),
-                after: releasing(rate, short(up + 1)),
-            };
-        }
-    }
     Gains {
-        at: sidechain_gain(rate, since),
-        after: sidechain_gain(rate, next),
+        at: past_attack(rate, up),
+        after: past_attack(rate, up + 1),
     }
 }
 
