@@ -241,6 +241,9 @@ fn products(rate: DuckRate, counts: &[u64], count: usize, from: usize, n: u64) -
     let mut c = from;
     while c < count {
         let kick = counts[c];
+        if n + 1 < kick {
+            return gains;
+        }
         if !has_attacked(rate, kick, n) {
             return Gains {
                 at: product(rate, counts, count, c, n, gains.at),
