@@ -14,11 +14,11 @@ pub floor-is : ofBits binary64 0x3fe0_09b9_cf33_4253 ≡ stripFloor
 unfolding ofBits round
 floor-is = refl
 
--- from the number k to any j that is k
+-- from the entry k to the j that is k
 pub entry : {j : ℕ} {x : Float} (k : ℕ) → j ≡ k → x ≡ attackGain stripFloor 441 k → x ≡ attackGain stripFloor 441 j
 entry {j} {x} k e rule = subst (λ (n : ℕ). x ≡ attackGain stripFloor 441 n) (sym e) rule
 
--- floats of the same bits are the same
+-- an attack that has the table has its gains: floats of the same bits are the same
 pub tabled-says : (floor : Float) (attack : ℕ) → T (fits binary64 floor) → tabled floor attack ≡ true → (j : ℕ) → attackGain stripFloor 441 j ≡ attackGain floor attack j
 unfolding tabled
 tabled-says floor attack f e j =

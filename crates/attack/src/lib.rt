@@ -13,7 +13,8 @@ fn divided(floor: f64, attack: u64, j: u64) -> f64
     1.0 - (1.0 - floor) * std::num::nearest_u64_to_f64(j) / std::num::nearest_u64_to_f64(attack)
 }
 
-// The table. A match, since the compiler makes of it an array in read-only memory; an array it would lay on the stack at each read.
+// The table, and past its end, where no attack is, the division. A match, since the compiler makes of it an array in read-only memory; an array
+// it would lay on the stack at each read.
 fn attack_441(j: u64) -> f64
     ensures { λ r. ⌜ r ≡ attackGain stripFloor 441 j ⌝ }
 {
@@ -463,7 +464,7 @@ fn attack_441(j: u64) -> f64
     }
 }
 
-// Whether the table is that of an attack: the floor to the last bit.
+// Whether an attack's gains are the table's: 441 samples, and the strip's floor to the last bit.
 fn tabled(floor: f64, attack: u64) -> bool
     ensures { λ r. ⌜ r ≡ tabled floor attack ⌝ }
 {

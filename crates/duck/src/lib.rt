@@ -30,6 +30,12 @@ struct DuckedTwo {
     gains: Gains,
 }
 
+// The products of two samples so far, and the next kick.
+struct PastAttacks {
+    gains: Gains,
+    next: usize,
+}
+
 // A duck's part of the count store: the kicks, and their marks after them.
 pub const COUNTS: usize = 2 * ranges::MOST_KICKS;
 
@@ -131,7 +137,7 @@ fn times_two(rate: DuckRate, gain: f64, first: u64, second: u64) -> f64
     gain * of.at * of.after
 }
 
-// One kick more in the products of two samples, past its attack.
+// One kick more in the products of two samples; its attack is over at both.
 fn times_gains(rate: DuckRate, gains: Gains, since: u64, mark: u64) -> Gains
     requires { ⌜ (rate .attack ≤ since) × (since + 1 < lastPosition) ⌝ }
     ensures { λ r. ⌜ r .at ≡ timesGain rate (gains .at) since (isMark mark) ⌝ }
@@ -188,7 +194,7 @@ fn advance(rate: DuckRate, counts: &[u64], count: usize, ducking: usize, n: u64)
 }
 
 // gain, times the gains from a kick on.
-fn product(rate: DuckRate, counts: &[u64], count: usize, from: usize, n: u64, gain: f64) -> f64
+fn product_from(rate: DuckRate, counts: &[u64], count: usize, from: usize, n: u64, gain: f64) -> f64
     requires { ⌜ (duckCounts ≤ length (now counts)) × (count ≤ mostKicks) × (from ≤ count) ⌝ }
     ensures { λ g. ⌜ g ≡ timesUntil rate n gain (drop from (kicksIn count (now (counts .entry)))) (drop from (marksIn count (now (counts .entry)))) ⌝ }
 {
@@ -203,6 +209,20 @@ fn product(rate: DuckRate, counts: &[u64], count: usize, from: usize, n: u64, ga
         c += 1;
     }
     gain
+}
+
+// The same. Where the next kick is yet to come, as for most samples, the loop and what it prepares are spared.
+fn product(rate: DuckRate, counts: &[u64], count: usize, from: usize, n: u64, gain: f64) -> f64
+    requires { ⌜ (duckCounts ≤ length (now counts)) × (count ≤ mostKicks) × (from ≤ count) ⌝ }
+    ensures { λ g. ⌜ g ≡ timesUntil rate n gain (drop from (kicksIn count (now (counts .entry)))) (drop from (marksIn count (now (counts .entry)))) ⌝ }
+{
+    if count <= from {
+        return gain;
+    }
+    if n < counts[from] {
+        return gain;
+    }
+    product_from(rate, counts, count, from, n, gain)
 }
 
 // The gains from a kick on, two by two while two sound.
@@ -227,12 +247,13 @@ fn product_by_two(rate: DuckRate, counts: &[u64], count: usize, from: usize, n: 
     product(rate, counts, count, c, n, gain)
 }
 
-// The products at n and at n + 1, side by side while the kicks are past their attacks: a product's multiplications wait for each other, those of
-// two do not. From the first kick that is not, each sample goes on by itself: an attack's gain is read and not divided for, so two gain nothing.
-fn products(rate: DuckRate, counts: &[u64], count: usize, from: usize, n: u64) -> Gains
+// The products at n and at n + 1 over the kicks up to the first whose attack is not over, side by side: a product's multiplications wait for
+// each other, those of two do not.
+fn past_attacks(rate: DuckRate, counts: &[u64], count: usize, from: usize, n: u64) -> PastAttacks
     requires { ⌜ (duckCounts ≤ length (now counts)) × (count ≤ mostKicks) × (from ≤ count) × (n + 1 < lastPosition) ⌝ }
-    ensures { λ g. ⌜ g .at ≡ timesUntil rate n one (drop from (kicksIn count (now (counts .entry)))) (drop from (marksIn count (now (counts .entry)))) ⌝ }
-    ensures { λ g. ⌜ g .after ≡ timesUntil rate (n + 1) one (drop from (kicksIn count (now (counts .entry)))) (drop from (marksIn count (now (counts .entry)))) ⌝ }
+    ensures { λ p. ⌜ p .next ≤ count ⌝ }
+    ensures { λ p. ⌜ timesUntil rate n (p .gains .at) (drop (p .next) (kicksIn count (now (counts .entry)))) (drop (p .next) (marksIn count (now (counts .entry)))) ≡ timesUntil rate n one (drop from (kicksIn count (now (counts .entry)))) (drop from (marksIn count (now (counts .entry)))) ⌝ }
+    ensures { λ p. ⌜ timesUntil rate (n + 1) (p .gains .after) (drop (p .next) (kicksIn count (now (counts .entry)))) (drop (p .next) (marksIn count (now (counts .entry)))) ≡ timesUntil rate (n + 1) one (drop from (kicksIn count (now (counts .entry)))) (drop from (marksIn count (now (counts .entry)))) ⌝ }
 {
     let mut gains = Gains {
         at: 1.0,
@@ -241,19 +262,28 @@ fn products(rate: DuckRate, counts: &[u64], count: usize, from: usize, n: u64) -
     let mut c = from;
     while c < count {
         let kick = counts[c];
-        if n + 1 < kick {
-            return gains;
-        }
         if !has_attacked(rate, kick, n) {
-            return Gains {
-                at: product(rate, counts, count, c, n, gains.at),
-                after: product(rate, counts, count, c, n + 1, gains.after),
-            };
+            break;
         }
         gains = times_gains(rate, gains, n - kick, counts[ranges::MOST_KICKS + c]);
         c += 1;
     }
-    gains
+    PastAttacks { gains, next: c }
+}
+
+// The products at n and at n + 1. From the first kick whose attack is not over each goes on by itself, so that the attack's table is read in
+// one place.
+fn products(rate: DuckRate, counts: &[u64], count: usize, from: usize, n: u64) -> Gains
+    requires { ⌜ (duckCounts ≤ length (now counts)) × (count ≤ mostKicks) × (from ≤ count) × (n + 1 < lastPosition) ⌝ }
+    ensures { λ g. ⌜ g .at ≡ timesUntil rate n one (drop from (kicksIn count (now (counts .entry)))) (drop from (marksIn count (now (counts .entry)))) ⌝ }
+    ensures { λ g. ⌜ g .after ≡ timesUntil rate (n + 1) one (drop from (kicksIn count (now (counts .entry)))) (drop from (marksIn count (now (counts .entry)))) ⌝ }
+{
+    let past = past_attacks(rate, counts, count, from, n);
+    let next = past.next;
+    Gains {
+        at: product(rate, counts, count, next, n, past.gains.at),
+        after: product(rate, counts, count, next, n + 1, past.gains.after),
+    }
 }
 
 // ---- a sample, two samples, and a block of them in place

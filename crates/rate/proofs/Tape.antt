@@ -23,7 +23,7 @@ pub tape-48000 : TapeUsable (tapeRate 48000)
 unfolding tapeRate warpOf wowOf flutterOf ceilOf ringOf powerFrom ofBits add mul div le lt ofInt toUnsigned
 tape-48000 = record { hz = lit< tt; placed = refl; warp = record { some = lit< tt; small = lit≤ tt; even = refl }; reach = record { low = tt; high = tt }; within = lit< tt }
 
--- "attack 441, release 8,379, floor POW(10, −6/20)", the floor by its bits, which compare sooner than a quotient
+-- "attack 441, release 8,379, floor POW(10, −6/20)"; the floor stands by its bits, since antt's steps do not suffice to compare it with a quotient
 pub duck-44100 : duckRate 44100 ≡ record { attack = 441; release = 8379; floor = ofBits binary64 0x3fe0_09b9_cf33_4253 }
 unfolding duckRate samplesAt rounded gainOfDb POW EXP LN down floored twoTo round ofBits toBits add sub mul div neg le lt ofInt toUnsigned toSigned
 duck-44100 = refl

@@ -55,7 +55,8 @@ impl Case {
                 met.note("an attack in a run of one sample", alone && attacks > 0);
                 met.note("an attack in a longer run", !alone && attacks > 0);
                 met.note("two attacks at once", attacks > 1);
-                met.note("an attack beside two releases", attacks > 0 && since.len() > attacks + 1);
+                met.note("an attack beside two releases in a run of one sample", alone && attacks > 0 && since.len() > attacks + 1);
+                met.note("an attack beside a release in a longer run", !alone && attacks > 0 && since.len() > attacks);
                 met.note("an attack's last sample", since.contains(&(ENTRIES - 1)));
                 met.note("a release's first sample", since.contains(&ENTRIES));
                 n += 1;
@@ -71,7 +72,8 @@ impl List for Case {
         "an attack in a run of one sample",
         "an attack in a longer run",
         "two attacks at once",
-        "an attack beside two releases",
+        "an attack beside two releases in a run of one sample",
+        "an attack beside a release in a longer run",
         "an attack's last sample",
         "a release's first sample",
     ];

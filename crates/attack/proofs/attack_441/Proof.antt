@@ -1,5 +1,5 @@
 -- `attack_441` meets its contract: antt computes the rule at each of the 441 entries. Assumes nothing.
-use mathlib.Core.Path.{refl, sym, _∙_}
+use mathlib.Core.Path.{refl}
 use borrow.Author.Needs.{needs}
 use lib.Ieee.{ofBits, ofInt, add, sub, mul, div, round}
 use Rattle.attack.specs.Machine.{attackGain}
