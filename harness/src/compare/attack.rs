@@ -18,6 +18,9 @@ use crate::signal::Signal;
 const ENTRIES: u64 = 441;
 const DUCKS: u64 = 8_820;
 
+/// What a maker links, from the repository's root, where the harness is run.
+const LIBRARY: &str = "build/libgoqhari.a";
+
 /// A list of runs and latches, as the lane takes it.
 #[derive(Clone, Debug)]
 struct Case(tape::Case);
@@ -121,11 +124,16 @@ pub fn run(rng: &mut Rng, budget: Budget) -> Report {
     let [attack, release] = [SIDECHAIN_ATTACK_S, SIDECHAIN_RELEASE_S].map(|s| samples_at(s, RATE));
     let floor = gain_of_db(f64::from(SIDECHAIN_DB));
     report.compare(0, || "the samples of an attack".into(), ENTRIES, attack as u64);
+    let entry = |j: u64| 1.0 - ((1.0 - floor) * j as f64) / 441.0;
     for j in 0..ENTRIES {
         let ours = goqhari_test_sidechain(j);
         report.compare(j, || format!("entry {j}"), ours, sidechain_gain(j as usize, floor, attack, release));
-        let entry = 1.0 - ((1.0 - floor) * j as f64) / 441.0;
-        report.compare(j, || format!("entry {j} by 02's formula"), ours, entry);
+        report.compare(j, || format!("entry {j} by 02's formula"), ours, entry(j));
     }
+    // No contract says that a gain is read and not divided for, nor what the compiler makes of the table.
+    let table: Vec<u8> = (0..ENTRIES).flat_map(|j| entry(j).to_le_bytes()).collect();
+    let library = std::fs::read(LIBRARY).unwrap_or_default();
+    let held = library.windows(table.len()).filter(|bytes| *bytes == table).count() as u64;
+    report.compare(0, || format!("arrays of the 441 gains in {LIBRARY}"), held, 1);
     report
 }
