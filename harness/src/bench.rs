@@ -84,7 +84,7 @@ fn crowded() -> Setup {
     Setup { kicks: (0..1024).map(|k| 8 * k).collect(), ..lane(false) }
 }
 
-/// Kicks at the first sample, so that each attacks at every one of `ATTACK` samples. Under twice as many the last products would be subnormal.
+/// Kicks at the first sample, so that each attacks at every one of `ATTACK` samples. Under twice as many the last samples come near the subnormal numbers.
 fn attacking() -> Setup {
     Setup { kicks: vec![0; 512], ..lane(false) }
 }
