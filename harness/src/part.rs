@@ -18,6 +18,7 @@ unsafe extern "C" {
     pub safe fn goqhari_test_sinh(v: f64) -> f64;
     pub safe fn goqhari_test_sin_f32(x: f32) -> f32;
     pub safe fn goqhari_test_pow_f32(b: f32, p: f32) -> f32;
+    pub safe fn goqhari_test_flush(v: f64) -> f64;
     pub safe fn goqhari_test_section(section: &mut [f64; 9], x: f64) -> f64;
     pub safe fn goqhari_test_lowpass(hz: f32, first: &mut [f64; 5], second: &mut [f64; 5]);
     pub safe fn goqhari_test_retuned(from: f32, hz: f32, first: &mut [f64; 5], second: &mut [f64; 5]);

@@ -3,6 +3,8 @@
 use std::fmt::{Debug, Formatter, Result};
 use std::ops::Deref;
 
+use oracle::stream::FLUSH_FLOOR;
+
 use crate::rng::Rng;
 use crate::shrink::quieter;
 
@@ -38,12 +40,33 @@ impl Signal {
     }
 }
 
+/// The flush floor and its neighbours.
+pub const AT_FLOOR: [f64; 6] = [
+    FLUSH_FLOOR,
+    -FLUSH_FLOOR,
+    FLUSH_FLOOR.next_down(),
+    -FLUSH_FLOOR.next_down(),
+    FLUSH_FLOOR.next_up(),
+    -FLUSH_FLOOR.next_up(),
+];
+
+/// A number as a filter has it, or any, those about the flush floor among them.
+pub fn number(rng: &mut Rng) -> f64 {
+    match rng.below(8) {
+        0 => rng.any_f64(),
+        1 => rng.pick(&[0.0, -0.0, 1e-310, f64::NAN, f64::INFINITY]),
+        2 => rng.pick(&AT_FLOOR),
+        3 => rng.between(-2.0, 2.0) * FLUSH_FLOOR,
+        _ => rng.between(-2.0, 2.0),
+    }
+}
+
 /// `len` samples, each finite and of size at most 1,024.
 pub fn drawn(rng: &mut Rng, len: usize) -> Signal {
     let mut out = Vec::with_capacity(len);
     while out.len() < len {
         let stretch = rng.scaled(1.0, 4096.0) as usize;
-        let level = rng.pick(&[1.0, 0.3, 1e-3, 1e-9, 1e-18, 1e-21, 1e-300, 4.0, 1024.0]);
+        let level = rng.pick(&[1.0, 0.3, 1e-3, 1e-9, 1e-18, FLUSH_FLOOR, 1e-21, 1e-300, 4.0, 1024.0]);
         let kind = rng.below(7);
         let step = rng.between(0.0, 3.0);
         for i in 0..stretch {
@@ -72,5 +95,13 @@ pub fn wild(rng: &mut Rng, len: usize) -> Signal {
             }
         }
     }
+    Signal(out)
+}
+
+/// A sound, and silence up to `len` samples.
+pub fn fading(rng: &mut Rng, len: usize) -> Signal {
+    let sound = rng.scaled(1.0, 4000.0) as usize;
+    let Signal(mut out) = drawn(rng, sound);
+    out.resize(len, 0.0);
     Signal(out)
 }

@@ -14,6 +14,8 @@ mod shrink;
 mod signal;
 mod strip;
 
+use oracle::stream::FLUSH_FLOOR;
+
 use antt::{list, samples, single, truth};
 use rng::Rng;
 use setup::{RATE, Setup};
@@ -264,9 +266,9 @@ fn everything(rng: &mut Rng) -> Played {
     Played { name: "everything", why, rate: 240, setup: full(), stretches }
 }
 
-/// With nothing that a setup can leave out.
-fn plain(rng: &mut Rng) -> Played {
-    let setup = Setup {
+/// Nothing that a setup can leave out.
+fn bare() -> Setup {
+    Setup {
         graded: false,
         corners: [60.0, 60.0],
         drive: 2.5,
@@ -278,10 +280,20 @@ fn plain(rng: &mut Rng) -> Played {
         values: Vec::new(),
         kicks: Vec::new(),
         ..full()
-    };
+    }
+}
+
+fn plain(rng: &mut Rng) -> Played {
     let mut run = |k, drums| Call::Run(drawn(rng, k), drums);
     let stretches = vec![vec![run(5, true), run(0, false), run(7, false)]];
-    Played { name: "plain", why: "a fixed tone and nothing else", rate: 240, setup, stretches }
+    Played { name: "plain", why: "a fixed tone and nothing else", rate: 240, setup: bare(), stretches }
+}
+
+/// So faint that filters, allpasses and plate delays come to the flush floor and pass it.
+fn faint(rng: &mut Rng) -> Played {
+    let samples = drawn(rng, 12).into_iter().map(|x| x * 16.0 * FLUSH_FLOOR).collect();
+    let why = "the same, so faint that filters, allpasses and plate delays come to the flush floor";
+    Played { name: "faint", why, rate: 240, setup: bare(), stretches: vec![vec![Call::Run(samples, false), Call::Ask]] }
 }
 
 /// The part's own rate, at which the warp delays by some 26 samples.
@@ -325,13 +337,14 @@ use Rattle.played.proofs.Written.{line, section, pole, lane}";
 
 fn main() {
     let mut rng = Rng::new(7);
-    let [everything, plain, cd] = [everything, plain, cd].map(|list| list(&mut rng));
+    let [everything, plain, cd, faint] = [everything, plain, cd, faint].map(|list| list(&mut rng));
     assert!(tells_much(&everything), "the plate or the ceiling is hardly heard");
     match std::env::args().nth(1).as_deref() {
         Some("lists") => {
             println!("{LISTS}");
             everything.print_calls();
             plain.print_calls();
+            faint.print_calls();
             cd.print_events();
         }
         Some("stretches") => {

@@ -16,7 +16,7 @@ mod strip;
 use oracle::Controls;
 use oracle::stream::biquad::{butter_lowpass, section};
 use oracle::stream::delay::DelayLine;
-use oracle::stream::gain_of_db;
+use oracle::stream::{flush, gain_of_db};
 use oracle::stream::lanes::{Automation, Duck, Grade, Sweep, swept};
 use oracle::stream::master::Ceiling;
 use oracle::stream::onepole::{OnePole, Tilt};
@@ -29,6 +29,7 @@ use compare::ceiling::limited;
 use part::Call;
 use rng::Rng;
 use setup::{RATE, Setup, control};
+use signal::{AT_FLOOR, number};
 
 /// Lines for each function.
 const LINES: u64 = 200;
@@ -72,17 +73,11 @@ fn short(x: f32) -> u64 {
     u64::from(if x.is_nan() { 0x7fc0_0000 } else { x.to_bits() })
 }
 
-/// A number as a filter has it, or any.
-fn number(rng: &mut Rng) -> f64 {
-    match rng.below(8) {
-        0 => rng.any_f64(),
-        1 => rng.pick(&[0.0, -0.0, 1e-20, -1e-20, 9.999999999999999e-21, f64::NAN, f64::INFINITY]),
-        2 => rng.between(-1.0, 1.0) * 1e-20,
-        _ => rng.between(-1.5, 1.5),
-    }
-}
-
 fn filters(rng: &mut Rng) {
+    for i in 0..LINES {
+        let v = AT_FLOOR.get(i as usize).copied().unwrap_or_else(|| number(rng));
+        line("flush", &[bits(v)], bits(flush(v)));
+    }
     for i in 0..LINES {
         let five = butter_lowpass(rng.scaled(20.0, 20000.0) as f32, 4, RATE).coefficients()[(i % 2) as usize];
         let nine: [f64; 9] = std::array::from_fn(|k| if k < 5 && i % 4 != 0 { five[k] } else { number(rng) });

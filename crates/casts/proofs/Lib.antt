@@ -3,6 +3,7 @@ pub mod Pattern
 pub mod Split
 pub mod Exact
 pub mod Widening
+pub mod Field
 mod Rounded
 mod Closest
 pub mod Error

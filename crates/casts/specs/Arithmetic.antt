@@ -1,7 +1,8 @@
 -- f64 arithmetic as document 01 writes it: "Every operation is f64, rounded singly, in the order written."
 use Prim.Native.Nat.{ℕ}
+use mathlib.Core.Bool.{cond}
 use lib.IntN.{pos}
-use lib.Ieee.{Float, binary64, add, sub, mul, div, ofInt, ofBits}
+use lib.Ieee.{Float, binary64, add, sub, mul, div, neg, lt, ofInt, ofBits}
 
 infixl 6 _⊕_ _⊖_
 infixl 7 _⊗_ _⊘_
@@ -33,3 +34,7 @@ one = ofBits binary64 0x3ff0_0000_0000_0000
 
 abbrev pub two : Float
 two = ofBits binary64 0x4000_0000_0000_0000
+
+-- a size, as 01 and 02 speak of it: x, or −x where x is below 0. (That of −0 is left −0: no test tells it from 0.)
+unfoldable pub sizeOf : Float → Float
+sizeOf x = cond (lt x nought) (neg x) x

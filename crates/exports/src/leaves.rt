@@ -1,4 +1,4 @@
-// Filters, delay lines, ramps, the sweep, the tone and the duck.
+// Flush, filters, delay lines, ramps, the sweep, the tone and the duck.
 use automation::Tone;
 use biquad::Coefficients;
 use biquad::Lowpass;
@@ -11,6 +11,11 @@ use rate::PlateRate;
 use rate::TapeRate;
 
 const HZ: u32 = 44100;
+
+#[no_mangle]
+pub extern "C" fn goqhari_test_flush(v: f64) -> f64 {
+    stream::flush(v)
+}
 
 #[no_mangle]
 pub extern "C" fn goqhari_test_section(s: &mut [f64; 9], x: f64) -> f64 {

@@ -3,13 +3,13 @@ use mathlib.Core.Path.{_≡_}
 use mathlib.Core.List.{List, [], _∷_, map}
 use Prim.Native.Nat.{ℕ}
 use lib.Ieee.{Float, nan, mul, div, lt, le, neg, isNan, ofBits, round, toUnsigned}
-use Rattle.casts.specs.Arithmetic.{_⊗_, nought, half, one, two}
+use Rattle.casts.specs.Arithmetic.{_⊗_, nought, half, one, two, sizeOf}
 use Rattle.casts.specs.Step.{stepOf}
 use Rattle.rate.specs.declared.CeilingRate.{CeilingRate}
 use Rattle.rate.specs.Ceiling.{ceilingRate}
 use Rattle.rate.proofs.Ceiling.{ceiling-44100}
 use Rattle.stream.specs.declared.Frame.{Frame}
-use Rattle.master.specs.Ceiling.{silence, sizeOf, largerOf, peakOf, needFor, needOf, least, leastOf, heldOf, lastOf, total, releasedOf, taken, countOf, multiplied, multipliedStep, delivered, ceilingStep, freshMachine}
+use Rattle.master.specs.Ceiling.{silence, largerOf, peakOf, needFor, needOf, least, leastOf, heldOf, lastOf, total, releasedOf, taken, countOf, multiplied, multipliedStep, delivered, ceilingStep, freshMachine}
 
 abbrev frame : Float → Float → Frame
 frame a b = record { left = a; right = b }

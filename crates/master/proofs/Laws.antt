@@ -10,12 +10,12 @@ use borrow.Author.Tests.{le-leb, lt-leb, le-ltb, lt-ltb}
 use lib.Dec.{T, leb, ltb}
 use lib.Ieee.{Float, nan, inf, fin, neg, lt, ne, isNan}
 use lib.Ieee.Compare.{differs-from-itself, nan-differs}
-use Rattle.casts.specs.Arithmetic.{_⊗_, _⊘_, whole, nought, one}
+use Rattle.casts.specs.Arithmetic.{_⊗_, _⊘_, whole, nought, one, sizeOf}
 use Rattle.casts.specs.Cast.{narrowed}
 use Rattle.rate.specs.declared.CeilingRate.{CeilingRate}
 use Rattle.stream.specs.declared.Frame.{Frame}
 use Rattle.master.specs.declared.Heard.{Heard}
-use Rattle.master.specs.Ceiling.{sizeOf, largerOf, peakOf, needFor, needOf, gainOf, multiplied, clamped, delivered}
+use Rattle.master.specs.Ceiling.{largerOf, peakOf, needFor, needOf, gainOf, multiplied, clamped, delivered}
 use Rattle.master.specs.Kept.{countDown, drops}
 use Rattle.master.proofs.Window.{le-or-lt}
 

@@ -12,10 +12,10 @@ use lib.Ieee.Fits.{up-pos, down-pos, round-fits}
 use lib.Ieee.Scale.{finite, round-under, normal-of-fraction}
 use lib.Ieee.Positive.{num, den, first-pos}
 use Rattle.casts.specs.Order.{lt→le, not-lt→le, le-refl-any, first-zero}
-use Rattle.casts.specs.Arithmetic.{_⊘_, one}
+use Rattle.casts.specs.Arithmetic.{_⊘_, one, sizeOf}
 use Rattle.rate.specs.Ceiling.{plain}
 use Rattle.stream.specs.declared.Frame.{Frame}
-use Rattle.master.specs.Ceiling.{sizeOf, largerOf, peakOf, needFor}
+use Rattle.master.specs.Ceiling.{largerOf, peakOf, needFor}
 use Rattle.master.specs.SheetValue.{Moderate}
 use Rattle.casts.proofs.Error.{round-error}
 use Rattle.master.proofs.Laws.{size-else}

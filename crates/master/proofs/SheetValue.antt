@@ -10,7 +10,7 @@ use lib.Dec.{lit≤}
 use lib.ListN.{length, getD, replicate, length-append, List·getD-eq-default}
 use lib.Ieee.{Float, lt, isNan, ofBits}
 use lib.Ieee.Positive.{num, den, den-pos}
-use Rattle.casts.specs.Arithmetic.{_⊘_, nought, half, one}
+use Rattle.casts.specs.Arithmetic.{_⊘_, nought, half, one, sizeOf}
 use Rattle.casts.specs.Step.{stepOf, step-le, step-one}
 use Rattle.stage.specs.Stage.{outs, All, Beside}
 use Rattle.stage.proofs.Laws.{outs-length, all-append, beside-none, all-beside}
@@ -18,7 +18,7 @@ use Rattle.rate.specs.declared.CeilingRate.{CeilingRate}
 use Rattle.rate.specs.Ceiling.{unit, ceilingRate, Usable, SheetValueUsable}
 use Rattle.rate.proofs.Ceiling.{usable-44100, usable-48000, sheet-value-usable-44100, sheet-value-usable-48000}
 use Rattle.stream.specs.declared.Frame.{Frame}
-use Rattle.master.specs.Ceiling.{freshMachine, silence, peakOf, sizeOf, largerOf, needFor, needOf, lastOf, total, countOf, lateOf, taken, multiplied, multipliedStep}
+use Rattle.master.specs.Ceiling.{freshMachine, silence, peakOf, largerOf, needFor, needOf, lastOf, total, countOf, lateOf, taken, multiplied, multipliedStep}
 use Rattle.master.specs.Kept.{ceilingFresh}
 use Rattle.master.specs.SheetValue.{Moderate, ModerateFrame, FrameBound, Figure, SheetValueAt, SheetValue}
 use Rattle.master.proofs.Window.{le-or-lt}

@@ -4,7 +4,7 @@ use mathlib.Core.List.{List, [], _∷_}
 use mathlib.Core.Bool.{Bool, cond, _||_}
 use lib.ListN.{getD, take}
 use lib.Ieee.{Float, neg, lt, le, isNan}
-use Rattle.casts.specs.Arithmetic.{_⊗_, _⊘_, whole, nought, one}
+use Rattle.casts.specs.Arithmetic.{_⊗_, _⊘_, whole, nought, one, sizeOf}
 use Rattle.casts.specs.Cast.{narrowed}
 use Rattle.casts.specs.Least.{minF}
 use Rattle.casts.specs.Step.{stepOf}
@@ -21,10 +21,7 @@ pub record CeilingMachine : Type 0 where
   pub steps : List ℕ
   pub frames : List Frame
 
--- "Peak is the larger size, a NaN side ignored." (The size of -0 is left -0: no test tells it from 0.)
-unfoldable pub sizeOf : Float → Float
-sizeOf x = cond (lt x nought) (neg x) x
-
+-- "Peak is the larger size, a NaN side ignored."
 unfoldable pub largerOf : Float → Float → Float
 largerOf a b = cond (lt a b || isNan a) b a
 

@@ -5,14 +5,14 @@ ghost use Prim.Native.Nat.{_+_, _-_, _*_, _/_, _%_, _<_, _≤_};
 ghost use lib.ListN.{length, getD, set};
 ghost use lib.Dec.{T, leb, eqb};
 ghost use lib.Ieee.{nan, le};
-ghost use Rattle.casts.specs.Arithmetic.{_⊗_};
+ghost use Rattle.casts.specs.Arithmetic.{_⊗_, sizeOf};
 ghost use Rattle.casts.specs.Cast.{narrowed};
 ghost use Rattle.casts.specs.Least.{minF};
 ghost use Rattle.casts.specs.Step.{stepOf};
 ghost use Rattle.stage.specs.Stage.{ran, outs};
 ghost use Rattle.rate.specs.Ceiling.{Usable, unit};
 ghost use Rattle.ranges.specs.Ranges.{lastPosition};
-ghost use Rattle.master.specs.Ceiling.{sizeOf, largerOf, needOf, gainOf, multiplied, clamped, delivered};
+ghost use Rattle.master.specs.Ceiling.{largerOf, needOf, gainOf, multiplied, clamped, delivered};
 ghost use Rattle.master.specs.Kept.{ceilingOn, placesOf, popLen, drops, headAfter, lenAfter, needsAfter, numbersAfter, stepPlace, latePlace, lateAt, gave, ceilingStepOn, framesIn, framesOut, countsOut, filled, ceilingFresh};
 ghost use Rattle.master.specs.WellFormed.{needsIn, stepsIn, sumAt, wellFormed, Sized};
 use rate::CeilingRate;
@@ -151,19 +151,12 @@ fn enqueue(
 
 // ---- the gain
 
-// The lesser of two, a where neither is.
-fn lesser(a: f64, b: f64) -> f64
-    ensures { λ r. ⌜ r ≡ minF a b ⌝ }
-{
-    if b < a { b } else { a }
-}
-
 // The need at the queue's head, or the gain before risen by a frame, whichever is less.
 fn release(samples: &[f64], head: usize, before: f64, rise: f64) -> f64
     requires { ⌜ head < length (now samples) ⌝ }
     ensures { λ r. ⌜ r ≡ minF (getD (now (samples .entry)) head nan) (before ⊗ rise) ⌝ }
 {
-    lesser(samples[head], before * rise)
+    casts::lesser(samples[head], before * rise)
 }
 
 // A gain in whole steps.

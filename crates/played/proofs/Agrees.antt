@@ -5,7 +5,7 @@ use Rattle.rate.specs.Rate.{rateOf}
 use Rattle.strip.specs.Machine.{freshBus, fresh, sentFrom}
 use Rattle.strip.specs.Promise.{machineSystem}
 use Rattle.played.specs.Played.{Played, Sounded, given}
-use Rattle.played.specs.Lists.{everything, plain, cd}
+use Rattle.played.specs.Lists.{everything, plain, faint, cd}
 use Rattle.played.proofs.Apart.{rolled, at, busCall, answered-by, sent-by}
 use Rattle.played.proofs.Computed.{computed}
 use Rattle.played.proofs.Stretches.{everything-dry, everything-lane, cd-lane}
@@ -30,6 +30,11 @@ everything-agrees = answered-by (rateOf 240) (everything .setup) (everything .li
 pub plain-agrees : Agrees plain
 unfolding computed
 plain-agrees = refl
+
+-- the same, of samples so faint that the lane's sections flush some of what they give: of the 24 sides 14 are not 0
+pub faint-agrees : Agrees faint
+unfolding computed
+faint-agrees = refl
 
 -- the lane at 44,100 Hz, 40 samples in four stretches: sound comes out of the warp from the 26th on
 pub cd-agrees : Sounds cd

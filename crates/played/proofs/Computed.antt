@@ -1,5 +1,6 @@
 -- All that computing the machine unfolds: who unfolds `computed` unfolds what its line names. Assumes nothing.
 use lib.Ieee.{add, sub, mul, div, neg, le, lt, eq, isNan, ofInt, ofBits, toBits, toSigned, toUnsigned, round}
+use Rattle.casts.specs.Arithmetic.{sizeOf}
 use Rattle.casts.specs.Cast.{narrowed, floored, twoTo}
 use Rattle.casts.specs.Step.{stepOf}
 use Rattle.stage.specs.Stage.{identity}
@@ -23,7 +24,7 @@ use Rattle.oscillators.specs.Oscillators.{phaseOf, swellOf, warpDelay}
 use Rattle.tape.specs.Tape.{saturated, liftAt, equalizerStep, duckedStep, tapeStep, freshTone, freshEqualizer, freshTapeMachine, equalizerAtRest, tapeAtRest}
 use Rattle.allpass.specs.Allpass.{storedOf, latticeFrom, latticeStep, stretchedStep, delayStep}
 use Rattle.plate.specs.Machine.{inputStep, halfStep, leaving, tapsOf, fedOf, turnOf, stretchOf, tankStep, returnedOf, plateStep, freshHalf, freshPlate, inputAtRest, halfAtRest, atRest}
-use Rattle.master.specs.Ceiling.{sizeOf, largerOf, peakOf, needFor, needOf, least, leastOf, heldOf, releasedOf, lastOf, total, countOf, lateOf, taken, gainOf, multiplied, multipliedStep, clamped, delivered, ceilingStep}
+use Rattle.master.specs.Ceiling.{largerOf, peakOf, needFor, needOf, least, leastOf, heldOf, releasedOf, lastOf, total, countOf, lateOf, taken, gainOf, multiplied, multipliedStep, clamped, delivered, ceilingStep}
 use Rattle.master.specs.Kept.{framesIn, framesOut}
 use Rattle.strip.specs.Machine.{freshLane, freshBus, fresh, laneStep, mixedStep, busStep, stepped, laneLatched, latched, laneResting, busResting, resting, fed, fedAll, delivers, heardFrom}
 use Rattle.strip.specs.Promise.{refusal, eventsOf, feeds, accepted, says}

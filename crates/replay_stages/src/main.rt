@@ -123,7 +123,8 @@ fn answer(kind: usize, n: &[u64; 12]) -> u64 {
             vectors::short(n[1]),
             float(n[2]),
         )),
-        _ => bits(exports::leaves::goqhari_test_sidechain(n[0])),
+        10 => bits(exports::leaves::goqhari_test_sidechain(n[0])),
+        _ => bits(exports::leaves::goqhari_test_flush(float(n[0]))),
     }
 }
 
@@ -388,7 +389,7 @@ fn ceiling() -> u64 {
 
 fn main() {
     let names =
-        b"section onepole tilt    delay   ramp    daylightsweep   opened  corner  drive   side    ";
+        b"section onepole tilt    delay   ramp    daylightsweep   opened  corner  drive   side    flush   ";
     let t = tallied(names);
     vectors::print_tally(names, t);
     let of_tape = tape();

@@ -3,22 +3,22 @@
 ghost use mathlib.Core.Path.{_≡_};
 ghost use Rattle.stream.specs.Stream.{flushed};
 
-// Below this size a feedback state is silence.
-const FLUSH_FLOOR: f64 = 1e-20;
+// The exponent's field of 2^-64, below which a feedback state is silence.
+const FLUSH_FIELD: u64 = 959;
 
 pub struct Frame {
     pub left: f64,
     pub right: f64,
 }
 
-// v, or 0 where its size is below FLUSH_FLOOR.
+// v, or 0 where its size is below 2^-64, the least size of its field: so the field alone tells. A NaN's bits cannot be read, and 1
+// stands in for it, as for all above 1.
 pub fn flush(v: f64) -> f64
     ensures { λ r. ⌜ r ≡ flushed v ⌝ }
 {
-    if v < FLUSH_FLOOR {
-        if -FLUSH_FLOOR < v {
-            return 0.0;
-        }
+    let field = f64::to_bits(casts::lesser(1.0, v)) / 4503599627370496 % 2048;
+    if field < FLUSH_FIELD {
+        return 0.0;
     }
     v
 }

@@ -11,6 +11,7 @@ pub mod delay;
 pub mod duck;
 pub mod exp;
 pub mod floor;
+pub mod flush;
 pub mod lists;
 pub mod ln;
 pub mod narrow;
@@ -49,6 +50,7 @@ pub const ALL: &[(&str, u64, Run)] = &[
     ("narrow", MILLION, narrow::run),
     ("floor", MILLION, floor::run),
     ("whole", MILLION, whole::run),
+    ("flush", MILLION, flush::run),
     ("section", MILLION, section::run),
     ("onepole", MILLION, onepole::run),
     ("delay", MILLION, delay::run),

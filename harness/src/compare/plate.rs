@@ -19,14 +19,6 @@ struct Case {
 /// Long enough for the plate to come to rest after any sound.
 const UNTIL_REST: usize = 900_000;
 
-/// A sound, and silence until rest.
-fn fading(rng: &mut Rng) -> Signal {
-    let len = rng.scaled(1.0, 4000.0) as usize;
-    let Signal(mut x) = signal::drawn(rng, len);
-    x.resize(UNTIL_REST, 0.0);
-    Signal(x)
-}
-
 impl Case {
     fn oracle(&self) -> ([Vec<f64>; 2], bool) {
         let mut plate = Plate::new(RATE);
@@ -50,7 +42,7 @@ impl List for Case {
 
     fn drawn(rng: &mut Rng) -> Self {
         let x = if rng.once_in(8) {
-            fading(rng)
+            signal::fading(rng, UNTIL_REST)
         } else {
             let len = rng.scaled(1.0, 60000.0) as usize;
             signal::wild(rng, len)

@@ -8,6 +8,7 @@ use crate::part::{goqhari_test_fixed, goqhari_test_lowpass, goqhari_test_retuned
 use crate::report::{Budget, Report};
 use crate::rng::Rng;
 use crate::setup::RATE;
+use crate::signal::{AT_FLOOR, number};
 
 fn lowpass(report: &mut Report, hz: f32, from: f32) {
     let oracle: Vec<[f64; 5]> = butter_lowpass(hz, 4, RATE).coefficients();
@@ -31,17 +32,6 @@ fn fixed(report: &mut Report) {
     }
 }
 
-/// A number as a filter has it, or any.
-fn number(rng: &mut Rng) -> f64 {
-    match rng.below(8) {
-        0 => rng.any_f64(),
-        1 => rng.pick(&[0.0, -0.0, 1e-20, -1e-20, 9.999999999999999e-21, 1e-310, f64::NAN, f64::INFINITY]),
-        2 => 0.0,
-        3 => rng.between(-1.0, 1.0) * 1e-20,
-        _ => rng.between(-2.0, 2.0),
-    }
-}
-
 fn step(report: &mut Report, nine: [f64; 9], x: f64) -> [f64; 9] {
     let mut ours = nine;
     let out = goqhari_test_section(&mut ours, x);
@@ -56,6 +46,9 @@ pub fn run(rng: &mut Rng, budget: Budget) -> Report {
         lowpass(&mut report, hz, 1000.0);
     }
     fixed(&mut report);
+    for x in AT_FLOOR {
+        step(&mut report, [1.0, 0.0, 0.0, 0.0, 0.0, 0.0, 0.0, 0.0, 0.0], x);
+    }
     while budget.goes_on(report.cases) {
         if rng.flag() {
             step(&mut report, std::array::from_fn(|_| number(rng)), number(rng));

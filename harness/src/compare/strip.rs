@@ -170,11 +170,14 @@ const ANSWERS: [(u64, &str); 9] =
     [(0, "0"), (1, "1"), (2, "2"), (3, "3"), (5, "5"), (7, "7"), (8, "8"), (REST, "sound"), (REST + 1, "rest")];
 
 impl List for Case {
-    const MATTERS: &[&str] = &["0", "1", "2", "3", "5", "7", "8", "sound", "rest"];
+    const MATTERS: &[&str] = &["0", "1", "2", "3", "5", "7", "8", "sound", "rest", "rest after a sound"];
 
     fn drawn(rng: &mut Rng) -> Self {
         let many = 1 + rng.below(16) as usize;
-        let calls: Vec<Call> = (0..many).map(|_| Call::drawn(rng)).collect();
+        let mut calls: Vec<Call> = (0..many).map(|_| Call::drawn(rng)).collect();
+        if rng.once_in(64) {
+            calls.extend(silence(rng));
+        }
         let span = calls.iter().map(|call| call.samples().len() as u64).sum();
         let mut setup = Setup::drawn(rng, span);
         if rng.once_in(8) {
@@ -192,11 +195,29 @@ impl List for Case {
         for (answer, name) in ANSWERS {
             met.note(name, oracle.answers.contains(&answer));
         }
+        let sounds = oracle.answers.iter().skip_while(|&&answer| answer != REST);
+        met.note("rest after a sound", sounds.into_iter().any(|&answer| answer == REST + 1));
         lists::first("answer", &ours.answers, &oracle.answers)
             .or_else(|| lists::first("gain count", &ours.gains, &oracle.gains))
             .or_else(|| lists::first("side", &ours.frames, &oracle.frames))
             .or_else(|| lists::first("elements beyond kept", &[kept], &[true]))
     }
+}
+
+/// Long enough for a strip to come to rest after any sound.
+const UNTIL_REST: usize = 900_000;
+
+/// Runs of silence until rest, each asked whether it is there.
+fn silence(rng: &mut Rng) -> Vec<Call> {
+    let mut calls = vec![Call::Rest { wrong: 0 }];
+    let mut left = UNTIL_REST;
+    while left > 0 {
+        let len = (rng.scaled(4096.0, 65536.0) as usize).min(left);
+        calls.push(Call::Run { samples: Signal(vec![0.0; len]), drums: rng.flag(), wrong: 0 });
+        calls.push(Call::Rest { wrong: 0 });
+        left -= len;
+    }
+    calls
 }
 
 /// One number or list outside its range. A number that the tone or the pad leaves out may be.

@@ -73,14 +73,23 @@ impl Case {
     }
 }
 
+/// Long enough for most lanes to come to rest after a sound.
+const UNTIL_REST: usize = 100_000;
+
 impl List for Case {
-    const MATTERS: &[&str] = &["rest", "sound", "NaN"];
+    const MATTERS: &[&str] = &["rest after a sound", "sound", "NaN"];
 
     fn drawn(rng: &mut Rng) -> Self {
         if rng.once_in(6) {
             return Self::flipped(rng);
         }
-        let len = rng.scaled(1.0, 20000.0) as usize;
+        let samples = if rng.once_in(16) {
+            signal::fading(rng, UNTIL_REST)
+        } else {
+            let len = rng.scaled(1.0, 20000.0) as usize;
+            signal::drawn(rng, len)
+        };
+        let len = samples.len();
         let setup = Setup::drawn(rng, len as u64);
         let latches = rng.below(8);
         let mut calls = Vec::new();
@@ -90,7 +99,7 @@ impl List for Case {
             }
             calls.push(Call::Run(size, rng.flag()));
         }
-        Self { setup, samples: signal::drawn(rng, len), calls }
+        Self { setup, samples, calls }
     }
 
     fn samples(&self) -> u64 {
@@ -99,7 +108,8 @@ impl List for Case {
 
     fn difference(&self, met: &mut Met) -> Option<String> {
         let ((ours, our_rest), (oracle, rest)) = (self.ours(), self.oracle());
-        met.note(if rest { "rest" } else { "sound" }, true);
+        met.note("rest after a sound", rest && oracle.iter().any(|&y| y != 0.0));
+        met.note("sound", !rest);
         met.note("NaN", oracle.iter().any(|y| y.is_nan()));
         lists::first("sample", &ours, &oracle).or_else(|| lists::first("rest answer", &[our_rest], &[rest]))
     }

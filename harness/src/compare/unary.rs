@@ -1,17 +1,19 @@
 //! What the comparisons of functions of one f64 share.
 
-use crate::report::{Budget, Report};
+use std::fmt::Debug;
+
+use crate::report::{Alike, Budget, Report};
 use crate::rng::Rng;
 
 /// Compares on `edges` and their neighbours where `inside`, then on draws.
-pub fn run(
+pub fn run<T: Alike + Debug>(
     rng: &mut Rng,
     budget: Budget,
     edges: &[f64],
     inside: fn(f64) -> bool,
     draw: fn(&mut Rng) -> f64,
-    ours: fn(f64) -> f64,
-    oracle: fn(f64) -> f64,
+    ours: fn(f64) -> T,
+    oracle: fn(f64) -> T,
 ) -> Report {
     let mut report = Report::default();
     let case = |report: &mut Report, v: f64| {

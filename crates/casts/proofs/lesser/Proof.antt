@@ -1,6 +1,6 @@
--- `master::lesser` meets its contract. Assumes nothing.
-use Rattle.master.proofs.lesser.Statement.{statement}
-use Rattle.master.proofs.lesser.Tie as tie
+-- `casts::lesser` meets its contract. Assumes nothing.
+use Rattle.casts.proofs.lesser.Statement.{statement}
+use Rattle.casts.proofs.lesser.Tie as tie
 
 returns : tie.Need-returns
 returns c = rw (c .if1 .taken)
