@@ -42,6 +42,19 @@ plain = record {
   answers = ran (single 0x0 ∷ single 0x0 ∷ single 0xba96cbeb ∷ single 0xba96cbeb ∷ single 0xbc78aa8c ∷ single 0xbc78aa8c ∷ single 0xbdab287c ∷ single 0xbdab287c ∷ single 0xbe833c7f ∷ single 0xbe833c7f ∷ []) (2199023255552 ∷ 2199023255552 ∷ 2199023255552 ∷ 2199023255552 ∷ 2199023255552 ∷ []) ∷ ran ([]) ([]) ∷ ran (single 0xbefcd64a ∷ single 0xbefcd64a ∷ single 0xbf1e3362 ∷ single 0xbf1e3362 ∷ single 0xbeda647d ∷ single 0xbeda647d ∷ single 0x3e1779a9 ∷ single 0x3e177f56 ∷ single 0x3f2f67e3 ∷ single 0x3f2f70fa ∷ single 0x3f4be35d ∷ single 0x3f4bf187 ∷ single 0x3f642905 ∷ single 0x3f642064 ∷ []) (2199023255552 ∷ 2199023255552 ∷ 2199023255552 ∷ 2041614981696 ∷ 1448840175813 ∷ 905904281438 ∷ 798334919090 ∷ []) ∷ [];
 }
 
+abbrev pub faint0 : List Call
+faint0 = run (double 0xbc2a000000000000 ∷ double 0x3c4f000000000000 ∷ double 0xbc31000000000000 ∷ double 0xbc34000000000000 ∷ double 0x3c18000000000000 ∷ double 0x3c2e000000000000 ∷ double 0xbc42800000000000 ∷ double 0x3c31000000000000 ∷ double 0x3c2e000000000000 ∷ double 0xbc45000000000000 ∷ double 0x3c4a800000000000 ∷ double 0x3c31000000000000 ∷ []) false (room 24) (counts 12) ∷ ask ∷ []
+
+-- the same, so faint that filters, allpasses and plate delays come to the flush floor
+abbrev pub faint : Played
+faint = record {
+  rate = 240;
+  setup = record { tape = record { tone = Fixed (single 0x42700000) (double 0x4004000000000000); pad = Without; darkened = false; input = double 0x3ff8000000000000; output = double 0x4010000000000000; ducked = false }; daylight = single 0x3e800000; rain = single 0x3f000000; send = double 0x3fe8000000000000 };
+  lists = record { positions = []; values = []; kicks = [] };
+  calls = faint0;
+  answers = ran (single 0x0 ∷ single 0x0 ∷ single 0x0 ∷ single 0x0 ∷ single 0x0 ∷ single 0x0 ∷ single 0x0 ∷ single 0x0 ∷ single 0x0 ∷ single 0x0 ∷ single 0x21451e64 ∷ single 0x21451e64 ∷ single 0x221186bf ∷ single 0x221186bf ∷ single 0x2278a9e4 ∷ single 0x2278a9e4 ∷ single 0x22968bc4 ∷ single 0x22968bc4 ∷ single 0x2289cb84 ∷ single 0x2289cb84 ∷ single 0x223af24f ∷ single 0x223af24f ∷ single 0x218740e7 ∷ single 0x218740e7 ∷ []) (2199023255552 ∷ 2199023255552 ∷ 2199023255552 ∷ 2199023255552 ∷ 2199023255552 ∷ 2199023255552 ∷ 2199023255552 ∷ 2199023255552 ∷ 2199023255552 ∷ 2199023255552 ∷ 2199023255552 ∷ 2199023255552 ∷ []) ∷ rests false ∷ [];
+}
+
 abbrev pub cd0 : List Event
 cd0 = sampled true (double 0xc002000000000000 ∷ double 0xbff2000000000000 ∷ double 0x3fd0000000000000 ∷ double 0x3ffb000000000000 ∷ double 0x3ff0000000000000 ∷ double 0xbff8000000000000 ∷ []) ++ (latch (record { daylight = single 0x3f800000; grading = 40; rain = single 0x0; darkening = 30 }) ∷ []) ++ sampled false (double 0x4001000000000000 ∷ double 0xbff6000000000000 ∷ double 0xc00f000000000000 ∷ double 0xc006000000000000 ∷ [])
 

@@ -1,0 +1,2 @@
+-- The flush floor, by the exponent's field.
+mod Floor
