@@ -98,6 +98,9 @@ pub fn wild(rng: &mut Rng, len: usize) -> Signal {
     Signal(out)
 }
 
+/// Samples in which any plate, and so any strip, comes to rest after a sound.
+pub const UNTIL_REST: usize = 900_000;
+
 /// A sound, and silence up to `len` samples.
 pub fn fading(rng: &mut Rng, len: usize) -> Signal {
     let sound = rng.scaled(1.0, 4000.0) as usize;

@@ -289,10 +289,10 @@ fn plain(rng: &mut Rng) -> Played {
     Played { name: "plain", why: "a fixed tone and nothing else", rate: 240, setup: bare(), stretches }
 }
 
-/// So faint that filters, allpasses and plate delays come to the flush floor and pass it.
+/// So faint that the lane's sections come to the flush floor and pass it.
 fn faint(rng: &mut Rng) -> Played {
     let samples = drawn(rng, 12).into_iter().map(|x| x * 16.0 * FLUSH_FLOOR).collect();
-    let why = "the same, so faint that filters, allpasses and plate delays come to the flush floor";
+    let why = "the same, so faint that the lane's sections come to the flush floor";
     Played { name: "faint", why, rate: 240, setup: bare(), stretches: vec![vec![Call::Run(samples, false), Call::Ask]] }
 }
 

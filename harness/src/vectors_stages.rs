@@ -16,13 +16,13 @@ mod strip;
 use oracle::Controls;
 use oracle::stream::biquad::{butter_lowpass, section};
 use oracle::stream::delay::DelayLine;
-use oracle::stream::{flush, gain_of_db};
 use oracle::stream::lanes::{Automation, Duck, Grade, Sweep, swept};
 use oracle::stream::master::Ceiling;
 use oracle::stream::onepole::{OnePole, Tilt};
 use oracle::stream::plate::Plate;
 use oracle::stream::rain;
 use oracle::stream::ramp::{Ramp, Shape};
+use oracle::stream::{flush, gain_of_db};
 use oracle::synth::{SIDECHAIN_ATTACK_S, SIDECHAIN_DB, SIDECHAIN_RELEASE_S, samples_at, sidechain_gain};
 
 use compare::ceiling::limited;
@@ -75,10 +75,6 @@ fn short(x: f32) -> u64 {
 
 fn filters(rng: &mut Rng) {
     for i in 0..LINES {
-        let v = AT_FLOOR.get(i as usize).copied().unwrap_or_else(|| number(rng));
-        line("flush", &[bits(v)], bits(flush(v)));
-    }
-    for i in 0..LINES {
         let five = butter_lowpass(rng.scaled(20.0, 20000.0) as f32, 4, RATE).coefficients()[(i % 2) as usize];
         let nine: [f64; 9] = std::array::from_fn(|k| if k < 5 && i % 4 != 0 { five[k] } else { number(rng) });
         let x = number(rng);
@@ -94,6 +90,14 @@ fn filters(rng: &mut Rng) {
         let mut one = [x];
         Tilt::of(pole, y).process_lifted(&mut one, |_| rain::lift(wet));
         line("tilt", &[pole, y, wet, x].map(bits), bits(one[0]));
+    }
+}
+
+/// At its floor, then anywhere.
+fn flushes(rng: &mut Rng) {
+    for i in 0..LINES {
+        let v = AT_FLOOR.get(i as usize).copied().unwrap_or_else(|| number(rng));
+        line("flush", &[bits(v)], bits(flush(v)));
     }
 }
 
@@ -333,6 +337,7 @@ fn main() {
     delays(&mut rng);
     ramps(&mut rng);
     tones(&mut rng);
+    flushes(&mut Rng::new(1));
     row("end", &[]);
     tape(&mut rng);
     kicks(&mut rng);

@@ -1,15 +1,15 @@
--- The exponent's field of a value's pattern tells its size, in either format: the field is k or less exactly where the size is below hid * 2 ^ k of the format's smallest values. Assumes nothing.
+-- The exponent's field of a value's pattern tells its size, in either format: the field is at most k exactly where the size is below hid * 2 ^ k times the format's least value above 0. Assumes nothing.
 use mathlib.Core.Path.{_≡_, refl, sym, ap, _∙_, subst}
 use Prim.Native.Nat.{ℕ, zero, suc, _+_, _-_, _*_, _/_, _%_, _^_, _≤_, _<_}
-use native.Mathlib.Nat.{le-trans, lt-of-lt-of-le, mul-one, zero-mul, mul-assoc, mul-pos, mul-le-mul-left, mul-le-mul-right, mul-lt-mul-of-pos-right, lt-of-mul-lt-mul-right, le-of-mul-le-mul-right, mul-right-comm, mul-comm, mod-lt, pow-succ', le-add-right, zero-lt-suc}
+use native.Mathlib.Nat.{le-trans, lt-of-lt-of-le, zero-mul, mul-assoc, mul-pos, mul-le-mul-left, mul-le-mul-right, mul-lt-mul-of-pos-right, lt-of-mul-lt-mul-right, le-of-mul-le-mul-right, mul-right-comm, mul-comm, mod-lt, pow-succ', le-add-right, zero-lt-suc}
 use native.Mathlib.Omega.{arith}
 use mathlib.Core.Bool.{Bool, true, false, not, cond, true≢false}
-use lib.IntN.{ℤ, pos}
+use lib.IntN.{ℤ}
 use lib.Dec.{T, ltb, leb, eqb, eqb→eq, ltb→lt, nltb→le}
 use lib.Pow.{pow-pos, pow-mono}
 use borrow.Author.Tests.{le-ltb, lt-ltb}
 use lib.Ieee.{Float, nan, inf, fin, Format, prec, low, up, down, hid, ones, top, odd, lt, neg, ofFields, ofBits, toBits, fits}
-use lib.Ieee.Fits.{up-pos, down-pos}
+use lib.Ieee.Fits.{down-pos}
 use lib.Ieee.Bits.{ofBits-toBits}
 use lib.Ieee.Exact.{HasValue, odd-sign}
 use Rattle.casts.specs.Arithmetic.{sizeOf}
@@ -59,15 +59,15 @@ cross M D N E a b c hD hE hc p q = same (ltb a b) (λ (t : T (ltb a b)). lt-ltb 
         let k : N * D * c ≤ M * E * c = rw (left, right) (mul-le-mul-right (D * E) h) in
         le-of-mul-le-mul-right k hc
 
-size-below : (v y : Float) (s : Bool) (a b c : ℕ) → 0 < c → HasValue v s a c → HasValue y false b c → lt (sizeOf v) y ≡ ltb a b
-size-below (fin s m e) (fin false n d) s′ a b c hc h k = size-lt s m e n d ∙ cross (m * up e) (down e) (n * up d) (down d) a b c (down-pos e) (down-pos d) hc (h .1) (k .1)
-size-below (fin s m e) (fin true n d) s′ a b c hc h k = absurd (true≢false (k .0))
-size-below (fin s m e) nan s′ a b c hc h k = absurd k
-size-below (fin s m e) (inf u) s′ a b c hc h k = absurd k
-size-below nan y s′ a b c hc h k = absurd h
-size-below (inf u) y s′ a b c hc h k = absurd h
+sizes-compare : (v y : Float) (s : Bool) (a b c : ℕ) → 0 < c → HasValue v s a c → HasValue y false b c → lt (sizeOf v) y ≡ ltb a b
+sizes-compare (fin s m e) (fin false n d) s′ a b c hc h k = size-lt s m e n d ∙ cross (m * up e) (down e) (n * up d) (down d) a b c (down-pos e) (down-pos d) hc (h .1) (k .1)
+sizes-compare (fin s m e) (fin true n d) s′ a b c hc h k = absurd (true≢false (k .0))
+sizes-compare (fin s m e) nan s′ a b c hc h k = absurd k
+sizes-compare (fin s m e) (inf u) s′ a b c hc h k = absurd k
+sizes-compare nan y s′ a b c hc h k = absurd h
+sizes-compare (inf u) y s′ a b c hc h k = absurd h
 
--- ---- what a field says of the size, in the format's smallest values
+-- ---- what a field says of the size, counted in the format's least value above 0
 -- a field of x + 1: the size is at least hid * 2 ^ x, and below twice that
 units : (h t x k : ℕ) → t < h → ltb ((h + t) * 2 ^ x) (h * 2 ^ k) ≡ ltb (suc x) (suc k)
 units h t x k l =
@@ -99,7 +99,7 @@ module _ (f : Format) (y : Float) (k : ℕ) (b : suc k ≤ ones f) (h : HasValue
   fields-below : (s : Bool) (x t : ℕ) → t < hid f → lt (sizeOf (ofFields f s x t)) y ≡ ltb x (suc k)
   unfolding ofFields
   fields-below s zero t l =
-      size-below (odd (prec f) s t 0 (low f)) y s (t * 2 ^ 0) (hid f * 2 ^ k) (2 ^ low f) (pow-pos (low f)) (odd-sign (prec f) s t 0 (low f)) h
+      sizes-compare (odd (prec f) s t 0 (low f)) y s (t * 2 ^ 0) (hid f * 2 ^ k) (2 ^ low f) (pow-pos (low f)) (odd-sign (prec f) s t 0 (low f)) h
       ∙ lt-ltb (t * 2 ^ 0) (hid f * 2 ^ k) (lt-of-lt-of-le (mul-lt-mul-of-pos-right l (pow-pos 0)) (mul-le-mul-left (hid f) (pow-pos k)))
       ∙ sym (lt-ltb 0 (suc k) (zero-lt-suc k))
   fields-below s (suc x) t l = go (eqb (suc x) (ones f)) (eqb→eq (suc x) (ones f))
@@ -107,7 +107,7 @@ module _ (f : Format) (y : Float) (k : ℕ) (b : suc k ≤ ones f) (h : HasValue
       go : (q : Bool) → (T q → suc x ≡ ones f) → lt (sizeOf (cond q (cond (eqb t 0) (inf s) nan) (odd (prec f) s (hid f + t) x (low f)))) y ≡ ltb (suc x) (suc k)
       go true e = no-size (eqb t 0) s y (hid f * 2 ^ k) (2 ^ low f) h ∙ sym (le-ltb (suc x) (suc k) (subst (λ (n : ℕ). suc k ≤ n) (sym (e tt)) b))
       go false e =
-          size-below (odd (prec f) s (hid f + t) x (low f)) y s ((hid f + t) * 2 ^ x) (hid f * 2 ^ k) (2 ^ low f) (pow-pos (low f)) (odd-sign (prec f) s (hid f + t) x (low f)) h
+          sizes-compare (odd (prec f) s (hid f + t) x (low f)) y s ((hid f + t) * 2 ^ x) (hid f * 2 ^ k) (2 ^ low f) (pow-pos (low f)) (odd-sign (prec f) s (hid f + t) x (low f)) h
           ∙ units (hid f) t x k l
 
   -- the exponent's field of v's pattern, as `ofBits` reads it

@@ -45,7 +45,7 @@ plain = record {
 abbrev pub faint0 : List Call
 faint0 = run (double 0xbc2a000000000000 ∷ double 0x3c4f000000000000 ∷ double 0xbc31000000000000 ∷ double 0xbc34000000000000 ∷ double 0x3c18000000000000 ∷ double 0x3c2e000000000000 ∷ double 0xbc42800000000000 ∷ double 0x3c31000000000000 ∷ double 0x3c2e000000000000 ∷ double 0xbc45000000000000 ∷ double 0x3c4a800000000000 ∷ double 0x3c31000000000000 ∷ []) false (room 24) (counts 12) ∷ ask ∷ []
 
--- the same, so faint that filters, allpasses and plate delays come to the flush floor
+-- the same, so faint that the lane's sections come to the flush floor
 abbrev pub faint : Played
 faint = record {
   rate = 240;

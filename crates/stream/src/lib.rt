@@ -11,8 +11,8 @@ pub struct Frame {
     pub right: f64,
 }
 
-// v, or 0 where its size is below 2^-64, the least size of its field: so the field alone tells. A NaN's bits cannot be read, and 1
-// stands in for it, as for all above 1.
+// v, or 0 where its size is below 2^-64: the least size with the field 959, so the field alone tells.
+// A NaN's bits cannot be read: 1, which stays, stands in for it and for all above 1.
 pub fn flush(v: f64) -> f64
     ensures { λ r. ⌜ r ≡ flushed v ⌝ }
 {

@@ -6,8 +6,7 @@ use Prim.Native.Nat.{ℕ}
 use lib.Ieee.{Float, nan, binary64, ofBits, neg, eq}
 use Rattle.casts.specs.Arithmetic.{_⊗_, nought, half, one, two, whole}
 use Rattle.stream.specs.declared.Frame.{Frame}
-use Rattle.stream.specs.Stream.{flushFloor, flushed}
-use Rattle.stream.specs.Cases.{f64Below}
+use Rattle.stream.specs.Stream.{flushed}
 use Rattle.ramp.specs.declared.Ramp.{Ramp}
 use Rattle.ramp.specs.Ramp.{rampAt, toward}
 use Rattle.ramp.specs.Cases.{rising}
@@ -29,8 +28,8 @@ abbrev closing : ℕ → Float
 closing n = sweepAt (10 ∷ 74 ∷ []) (one ∷ nought ∷ []) n
 
 pub record Cases (r : CeilingRate) : Type 0 where
-  -- "Flush: 1e-20 stays, the f64 below it gives 0, NaN stays.", which 02's E5 reworks: the floor is 2^-64
-  pub a : (flushed flushFloor ≡ flushFloor) × (flushed (f64Below flushFloor) ≡ nought) × (flushed nan ≡ nan)
+  -- "Flush: 1e-20 stays, the f64 below it gives 0, NaN stays.", which 02's E5 reworks at the new floor, 2^-64
+  pub a : (flushed (number 0x3bf0_0000_0000_0000) ≡ number 0x3bf0_0000_0000_0000) × (flushed (number 0x3bef_ffff_ffff_ffff) ≡ nought) × (flushed nan ≡ nan)
   -- "Ramp 0, toward 1 at 0 over 100: at 50, 0.5; at 100, 1."
   pub b : (rampAt rising 50 ≡ half) × (rampAt rising 100 ≡ one)
   -- "That ramp toward 0 at 50 over 4: at 52, 0.25."

@@ -1,4 +1,4 @@
-//! Flush of every f64: the Rust's with 02's floor, and 02's sentence by itself.
+//! Flush of any f64: the Rust's with 02's floor, and 02's sentence by itself.
 
 use oracle::stream::{FLUSH_FLOOR, flush};
 
@@ -8,7 +8,7 @@ use crate::report::{Budget, Report};
 use crate::rng::Rng;
 
 /// About the floor of 02, that of 01, the least normal f64 and 0, on both sides of 0.
-const EDGES: [f64; 14] = [
+const EDGES: [f64; 15] = [
     0.0,
     -0.0,
     f64::NAN,
@@ -21,6 +21,7 @@ const EDGES: [f64; 14] = [
     2.0 * FLUSH_FLOOR,
     -2.0 * FLUSH_FLOOR,
     FLUSH_FLOOR / 2.0,
+    -FLUSH_FLOOR / 2.0,
     1e-20,
     -1e-20,
 ];

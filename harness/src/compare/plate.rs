@@ -16,9 +16,6 @@ struct Case {
     calls: Vec<u64>,
 }
 
-/// Long enough for the plate to come to rest after any sound.
-const UNTIL_REST: usize = 900_000;
-
 impl Case {
     fn oracle(&self) -> ([Vec<f64>; 2], bool) {
         let mut plate = Plate::new(RATE);
@@ -42,7 +39,7 @@ impl List for Case {
 
     fn drawn(rng: &mut Rng) -> Self {
         let x = if rng.once_in(8) {
-            signal::fading(rng, UNTIL_REST)
+            signal::fading(rng, signal::UNTIL_REST)
         } else {
             let len = rng.scaled(1.0, 60000.0) as usize;
             signal::wild(rng, len)

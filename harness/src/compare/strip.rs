@@ -195,8 +195,8 @@ impl List for Case {
         for (answer, name) in ANSWERS {
             met.note(name, oracle.answers.contains(&answer));
         }
-        let sounds = oracle.answers.iter().skip_while(|&&answer| answer != REST);
-        met.note("rest after a sound", sounds.into_iter().any(|&answer| answer == REST + 1));
+        let mut sounded = oracle.answers.iter().skip_while(|&&answer| answer != REST);
+        met.note("rest after a sound", sounded.any(|&answer| answer == REST + 1));
         lists::first("answer", &ours.answers, &oracle.answers)
             .or_else(|| lists::first("gain count", &ours.gains, &oracle.gains))
             .or_else(|| lists::first("side", &ours.frames, &oracle.frames))
@@ -204,13 +204,10 @@ impl List for Case {
     }
 }
 
-/// Long enough for a strip to come to rest after any sound.
-const UNTIL_REST: usize = 900_000;
-
 /// Runs of silence until rest, each asked whether it is there.
 fn silence(rng: &mut Rng) -> Vec<Call> {
     let mut calls = vec![Call::Rest { wrong: 0 }];
-    let mut left = UNTIL_REST;
+    let mut left = signal::UNTIL_REST;
     while left > 0 {
         let len = (rng.scaled(4096.0, 65536.0) as usize).min(left);
         calls.push(Call::Run { samples: Signal(vec![0.0; len]), drums: rng.flag(), wrong: 0 });

@@ -73,7 +73,7 @@ impl Case {
     }
 }
 
-/// Long enough for most lanes to come to rest after a sound.
+/// Samples in which most lanes come to rest after a sound.
 const UNTIL_REST: usize = 100_000;
 
 impl List for Case {

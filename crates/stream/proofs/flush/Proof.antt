@@ -4,7 +4,7 @@ use native.Mathlib.Omega.{arith}
 use mathlib.Core.Bool.{not}
 use lib.Dec.{T}
 use borrow.Author.Needs.{needs}
-use lib.Ieee.{Float, binary64, isNan, fits}
+use lib.Ieee.{Float, binary64, isNan, ofBits, fits}
 use Rattle.stream.proofs.Floor.{no-nan, flushes, stays}
 use Rattle.stream.proofs.flush.Statement.{statement}
 use Rattle.stream.proofs.flush.Tie as tie
@@ -17,7 +17,8 @@ lesser-requires : tie.Need-lesser-requires
 lesser-requires c κs = search needs
 
 float-to-bits-field : tie.Need-float-to-bits-field
-float-to-bits-field c = subst (λ (x : Float). T (not (isNan x))) (sym (c .lesser .ensures)) (no-nan (c .before .args .v))
+unfolding isNan ofBits
+float-to-bits-field c = subst (λ (x : Float). T (not (isNan x))) (sym (c .lesser .ensures)) (no-nan _ (c .before .args .v) tt)
 
 returns : tie.Need-returns
 returns c = flushes (c .before .before .args .v) (c .before .lesser .result) (held (c .before .before)) (c .before .lesser .ensures) (omega (arith, c .if1 .taken))
