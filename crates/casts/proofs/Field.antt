@@ -27,8 +27,8 @@ size-lt false m e n d = ap (λ (b : Bool). lt (cond b (fin true m e) (fin false 
     none a k = omega arith
 size-lt true m e n d = go (ltb 0 (m * up e * 1 + 0 * down e)) (nltb→le 0 (m * up e * 1 + 0 * down e))
   where
-    nought : (a k : ℕ) → a * 1 + 0 * k ≤ 0 → a ≡ 0
-    nought a k h = omega arith
+    none-left : (a k : ℕ) → a * 1 + 0 * k ≤ 0 → a ≡ 0
+    none-left a k h = omega arith
 
     -- the size of −0, which is left −0
     still : (a x b : ℕ) → a ≡ 0 → ltb 0 (a * x + b) ≡ ltb (a * x) b
@@ -39,7 +39,7 @@ size-lt true m e n d = go (ltb 0 (m * up e * 1 + 0 * down e)) (nltb→le 0 (m * 
 
     go : (b : Bool) → (T (not b) → m * up e * 1 + 0 * down e ≤ 0) → lt (cond b (fin false m e) (fin true m e)) (fin false n d) ≡ ltb (m * up e * down d) (n * up d * down e)
     go true k = refl
-    go false k = still (m * up e) (down d) (n * up d * down e) (nought (m * up e) (down e) (k tt))
+    go false k = still (m * up e) (down d) (n * up d * down e) (none-left (m * up e) (down e) (k tt))
 
 -- M / D is a / c and N / E is b / c: the fractions compare as a and b
 cross : (M D N E a b c : ℕ) → 0 < D → 0 < E → 0 < c → M * c ≡ a * D → N * c ≡ b * E → ltb (M * E) (N * D) ≡ ltb a b
