@@ -71,8 +71,8 @@ fn gain(rng: &mut Rng) -> f64 {
     }
 }
 
-/// Positions that never fall, the most of them among the first `span` samples.
-fn positions(rng: &mut Rng, most: u64, span: u64) -> Vec<u64> {
+/// Positions that never fall, the most of them among the first `span` samples; after the first, once in `ties` one is tied with the one before it.
+fn positions(rng: &mut Rng, most: u64, span: u64, ties: u64) -> Vec<u64> {
     let many = if rng.once_in(8) { most } else { rng.below(12.min(most) + 1) };
     let mut at: Vec<u64> = (0..many)
         .map(|_| match rng.below(12) {
@@ -84,18 +84,26 @@ fn positions(rng: &mut Rng, most: u64, span: u64) -> Vec<u64> {
         .collect();
     at.sort_unstable();
     for i in 1..at.len() {
-        if rng.once_in(8) {
+        if rng.once_in(ties) {
             at[i] = at[i - 1];
         }
     }
     at
 }
 
+/// 02's E8: points on one position count as one that bears their lowest value. A list without ties is its own.
+pub fn merged(points: &[u64], values: &[f64]) -> Vec<(usize, f64)> {
+    let given: Vec<_> = points.iter().map(|&at| at as usize).zip(values.iter().copied()).collect();
+    let lowest = |tied: &[(usize, f64)]| tied.iter().map(|&(_, value)| value).fold(f64::INFINITY, f64::min);
+    given.chunk_by(|a, b| a.0 == b.0).map(|tied| (tied[0].0, lowest(tied))).collect()
+}
+
 impl Setup {
     /// A setup whose points and kicks matter to the first `span` samples.
     pub fn drawn(rng: &mut Rng, span: u64) -> Self {
-        let points = if rng.flag() { positions(rng, 256, span) } else { Vec::new() };
-        let values = points.iter().map(|_| if rng.once_in(3) { rng.pick(&[0.0, 1.0, 0.5]) } else { rng.unit() }).collect();
+        let ties = rng.pick(&[8, 8, 8, 2, 2, 2, 2, 1]);
+        let points = if rng.flag() { positions(rng, 256, span, ties) } else { Vec::new() };
+        let values = points.iter().map(|_| if rng.once_in(3) { rng.pick(&[0.0, 1.0, 0.5, -0.0]) } else { rng.unit() }).collect();
         Self {
             graded: rng.flag(),
             corners: [corner(rng), corner(rng)],
@@ -110,7 +118,7 @@ impl Setup {
             send: f64::from(control(rng)),
             points,
             values,
-            kicks: if rng.flag() { positions(rng, 1024, span) } else { Vec::new() },
+            kicks: if rng.flag() { positions(rng, 1024, span, 8) } else { Vec::new() },
         }
     }
 
@@ -126,9 +134,24 @@ impl Setup {
     }
 
     pub fn automation(&self) -> Automation {
-        let points: Vec<_> = self.points.iter().map(|&at| at as usize).zip(self.values.iter().copied()).collect();
+        let points = merged(&self.points, &self.values);
         let sweep = (!points.is_empty()).then(|| Sweep::new(points));
         Automation::new(Controls { daylight: self.daylight, rain: self.rain }, sweep)
+    }
+
+    /// Whether within `len` samples a tie changes what the Rust makes of the list as given: on the way to it, where the Rust takes the
+    /// tie's first point, and from it on, where it takes the last.
+    pub fn ties(&self, len: u64) -> [bool; 2] {
+        let open = self.corners[0] > 800.0 && (!self.graded || self.corners[1] > 800.0);
+        let given: Vec<_> = self.points.iter().copied().zip(self.values.iter().copied()).collect();
+        let tied: Vec<_> = given.chunk_by(|a, b| a.0 == b.0).collect();
+        let lowest: Vec<_> = merged(&self.points, &self.values).into_iter().map(|(_, value)| value).collect();
+        let reached = |i: usize| (0..len).contains(&tied[i][0].0) && tied[i].last().is_some_and(|last| last.1 != lowest[i]);
+        let neared = |i: usize| {
+            let block = (tied[i - 1][0].0 / 32 + 1) * 32;
+            block < len && block < tied[i][0].0 && tied[i][0].1 != lowest[i]
+        };
+        [open && (1..tied.len()).any(neared), open && (0..tied.len()).any(reached)]
     }
 
     /// `Tape::new` under these at a rate, as Chain calls it.

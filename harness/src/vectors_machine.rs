@@ -241,8 +241,8 @@ fn full() -> Setup {
         daylight: 0.25,
         rain: 0.5,
         send: 0.75,
-        points: vec![1, 40, 60],
-        values: vec![0.75, 0.25, 0.875],
+        points: vec![1, 1, 40, 40, 40, 60, 60],
+        values: vec![0.75, 1.0, 0.5, 0.25, 0.625, 0.9375, 0.875],
         kicks: vec![1, 2, 20, 33],
     }
 }
@@ -301,7 +301,7 @@ fn cd(rng: &mut Rng) -> Played {
     let setup = Setup {
         corners: [900.0, 6000.0],
         gains: [1.5, 1.0],
-        points: vec![3, 20, 45],
+        points: vec![3, 3, 20, 20, 20, 45, 45],
         kicks: vec![4, 9, 30],
         ..full()
     };

@@ -28,7 +28,7 @@ use oracle::synth::{SIDECHAIN_ATTACK_S, SIDECHAIN_DB, SIDECHAIN_RELEASE_S, sampl
 use compare::ceiling::limited;
 use part::Call;
 use rng::Rng;
-use setup::{RATE, Setup, control};
+use setup::{RATE, Setup, control, merged};
 use signal::{AT_FLOOR, number};
 
 /// Lines for each function.
@@ -139,16 +139,19 @@ fn ramps(rng: &mut Rng) {
 }
 
 fn tones(rng: &mut Rng) {
-    for _ in 0..LINES {
+    for i in 0..LINES {
         let mut points = [rng.below(200), rng.below(200), rng.below(200)];
         points.sort_unstable();
         if rng.once_in(4) {
-            points[1] = points[0];
+            // the first two on one sample, the last two, or all
+            let tied = [0..2, 1..3, 0..3][i as usize % 3].clone();
+            let at = points[tied.start];
+            points[tied].fill(at);
         }
         let values = [rng.unit(), rng.pick(&[0.0, 1.0, 0.5]), rng.unit()];
         let own = rng.scaled(700.0, 20000.0) as f32;
         let n = rng.below(220);
-        let sweep = Sweep::new(points.iter().map(|&at| at as usize).zip(values).collect());
+        let sweep = Sweep::new(merged(&points, &values));
         let mut numbers = points.to_vec();
         numbers.extend(values.map(bits));
         numbers.extend([short(own), n]);
@@ -261,7 +264,9 @@ fn runs() -> Vec<(u64, bool)> {
 
 /// The lane under kicks.
 fn kicks(rng: &mut Rng) {
-    let setup = Setup { points: vec![500, 4000, 4000, 9000], kicks: KICKS.to_vec(), ..everything() };
+    let points = vec![500, 500, 4000, 4000];
+    let values = vec![0.75, 1.0, 0.25, 0.5];
+    let setup = Setup { points, values, kicks: KICKS.to_vec(), ..everything() };
     let calls: Vec<Call> = runs().into_iter().map(|(len, drums)| Call::Run(len, drums)).collect();
     lane("kicks", &setup, &noise(rng, 1.2), &calls);
 }

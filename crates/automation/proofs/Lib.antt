@@ -1,2 +1,4 @@
 pub mod Points
+pub mod Merged
+pub mod Relates
 pub mod Span

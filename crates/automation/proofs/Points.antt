@@ -1,14 +1,15 @@
--- The points that are reached, and the points after them. Assumes nothing.
+-- The points that are reached, those after them, and those of a run. Assumes nothing.
 use mathlib.Core.Path.{_≡_, refl, ap}
 use mathlib.Core.List.{List, [], _∷_}
 use Prim.Native.Nat.{ℕ, zero, suc, _+_, _≤_, _<_}
-use native.Mathlib.Decide.{decLe}
+use native.Mathlib.Decide.{decLe, ℕ-discrete}
 use native.Mathlib.Numerals.{add-one}
 use native.Mathlib.Omega.{arith}
-use lib.ListN.{length, drop, getD, drop-of-length-le}
+use lib.ListN.{length, drop, getD, length-drop, drop-of-length-le}
 use lib.Seq.{drop-cons}
-use borrow.Author.Tests.{le-leb, lt-leb}
+use borrow.Author.Tests.{le-leb, lt-leb, eq-eqb, ne-eqb}
 use Rattle.automation.specs.Automation.{reached}
+use Rattle.automation.specs.Kept.{tied, runEnd}
 
 pub reached-most : (ps : List ℕ) (n : ℕ) → reached ps n ≤ length ps
 unfolding reached
@@ -66,3 +67,31 @@ no-more ps i n h k = rw (drop-cons ps i 0 h, lt-leb _ _ k)
 pub none-left : (ps : List ℕ) (i n : ℕ) → length ps ≤ i → reached (drop i ps) n ≡ 0
 unfolding reached
 none-left ps i n h = rw (drop-of-length-le ps h)
+
+-- the same of a run
+pub one-tied : (ps : List ℕ) (i p : ℕ) → i < length ps → p ≡ getD ps i 0 → tied p (drop i ps) ≡ suc (tied p (drop (i + 1) ps))
+unfolding tied
+one-tied ps i p h k = rw (add-one i, drop-cons ps i 0 h, eq-eqb _ _ k)
+
+pub no-tied : (ps : List ℕ) (i p : ℕ) → i < length ps → (p ≡ getD ps i 0 → ⊥) → tied p (drop i ps) ≡ 0
+unfolding tied
+no-tied ps i p h k = rw (drop-cons ps i 0 h, ne-eqb _ _ k)
+
+pub none-tied : (ps : List ℕ) (i p : ℕ) → length ps ≤ i → tied p (drop i ps) ≡ 0
+unfolding tied
+none-tied ps i p h = rw (drop-of-length-le ps h)
+
+tied-most : (p : ℕ) (ps : List ℕ) → tied p ps ≤ length ps
+unfolding tied
+tied-most p [] = omega arith
+tied-most p (q ∷ ps) = elim (ℕ-discrete p q) [
+  | yes e ↦ rw (eq-eqb p q e) (omega (arith, tied-most p ps))
+  | no h ↦ rw (ne-eqb p q h) (omega arith)
+]
+
+-- a run has its first point, and ends within the list
+pub run-within : (ps : List ℕ) (i : ℕ) → i < length ps → (i < runEnd ps i) × (runEnd ps i ≤ length ps)
+unfolding runEnd
+run-within ps i h =
+    let p = getD ps i 0 in
+    (omega (arith, one-tied ps i p h refl), omega (arith, tied-most p (drop i ps), length-drop i ps))

@@ -1,5 +1,5 @@
 -- A piece: the tuning of its first sample is that of each. Assumes nothing.
-use mathlib.Core.Path.{_≡_}
+use mathlib.Core.Path.{_≡_, sym, _∙_}
 use mathlib.Core.List.{List}
 use Prim.Native.Nat.{ℕ, _+_, _-_, _%_, _<_, _≤_, min}
 use native.Mathlib.Decide.{decLe}
@@ -14,6 +14,7 @@ use Rattle.automation.specs.declared.Tone.{Tone}
 use Rattle.automation.specs.Automation.{blockOf, daylightOf, reached, segment, sweepAt, tuningAt}
 use Rattle.automation.specs.Pieces.{rampSpan, sweepSpan, span}
 use Rattle.automation.proofs.Points.{reached-most, reached-next, reached-same}
+use Rattle.automation.proofs.Relates.{sweep-before, sweep-after, sweep-between}
 
 same-block : (n j : ℕ) → j < 32 - n % 32 → blockOf (n + j) ≡ blockOf n
 unfolding blockOf
@@ -75,16 +76,20 @@ module _ (ps : List ℕ) (n : ℕ) where
 
   -- only between two points does the value go by blocks
   sweep-same : (xs : List Float) (j : ℕ) → j < sweepSpan ps n → sweepAt ps xs (n + j) ≡ sweepAt ps xs n
-  unfolding sweepAt segment
-  sweep-same xs j h = elim (decLe (reached ps n) 0) [
-    | yes z ↦ rw (points-same j h, eq-eqb (reached ps n) 0 (omega arith))
-    | no z ↦ elim (decLe (length ps) (reached ps n)) [
-      | yes l ↦ rw (points-same j h, eq-eqb (reached ps n) (length ps) (omega (arith, reached-most ps n)))
-      | no l ↦
-          let e = sweep-going (omega arith) (omega arith) in
-          rw (points-same j h, same-block n j (omega arith))
-    ]
-  ]
+  unfolding segment
+  sweep-same xs j h =
+      let e = points-same j h in
+      elim (decLe (reached ps n) 0) [
+        | yes z ↦ sweep-before ps xs (n + j) (omega arith) ∙ sym (sweep-before ps xs n (omega arith))
+        | no z ↦ elim (decLe (length ps) (reached ps n)) [
+          | yes l ↦
+              let m = reached-most ps n in
+              rw (sweep-after ps xs (n + j) (omega arith) (omega arith), sweep-after ps xs n (omega arith) (omega arith), e)
+          | no l ↦
+              let g = sweep-going (omega arith) (omega arith) in
+              rw (sweep-between ps xs (n + j) (omega arith) (omega arith), sweep-between ps xs n (omega arith) (omega arith), e, same-block n j (omega arith))
+        ]
+      ]
 
 pub span-some : (r : Ramp) (ps : List ℕ) (n : ℕ) → 0 < span r ps n
 unfolding span

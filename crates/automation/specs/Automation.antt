@@ -1,12 +1,13 @@
 -- What the lane plays under: daylight, the sweep, the tone. Definitions only.
 use Prim.Native.Nat.{ℕ, suc, _-_, _%_, max}
 use mathlib.Core.Bool.{cond, _||_}
-use mathlib.Core.List.{List, [], _∷_}
-use lib.ListN.{length, getD}
+use mathlib.Core.List.{List, [], _∷_, map}
+use lib.ListN.{length, drop, getD}
 use lib.Dec.{leb, eqb}
 use lib.Ieee.{Float, nan, binary32, ofBits, le}
 use Rattle.casts.specs.Arithmetic.{_⊕_, _⊖_, _⊗_, _⊘_, whole, nought, one}
 use Rattle.casts.specs.Cast.{narrowed}
+use Rattle.casts.specs.Least.{minF}
 use Rattle.elementary.specs.Elementary.{POW}
 use Rattle.ramp.specs.declared.Ramp.{Ramp}
 use Rattle.ramp.specs.Ramp.{rampEnd, rampAt}
@@ -31,13 +32,45 @@ reached (p ∷ ps) n = cond (leb p n) (suc (reached ps n)) 0
 unfoldable pub segment : ℕ → Float → ℕ → Float → ℕ → Float
 segment a xa b xb n = xa ⊕ (xb ⊖ xa) ⊗ whole (max (blockOf n) a - a) ⊘ whole (b - a)
 
--- "Sweep value: 1 before any point; the last point's value after all; else, a and b the points around n"
-unfoldable pub sweepAt : List ℕ → List Float → ℕ → Float
-sweepAt ps xs n =
+-- "Sweep value: 1 before any point; the last point's value after all; else, a and b the points around n", of points no two of which are tied
+unfoldable pub sweepOf : List ℕ → List Float → ℕ → Float
+sweepOf ps xs n =
     let i = reached ps n in
     cond (eqb i 0) one
     (cond (eqb i (length ps)) (getD xs (i - 1) nan)
     (segment (getD ps (i - 1) 0) (getD xs (i - 1) nan) (getD ps i 0) (getD xs i nan) n))
+
+-- a sweep point: "(position, value 0 to 1)"
+pub record Point : Type 0 where
+  pub position : ℕ
+  pub value : Float
+
+-- the points of a list of positions and a list of values, one value a position. (One that is missing is NaN; refusal 3 declines such lists.)
+unfoldable pub pointsOf : List ℕ → List Float → List Point
+pointsOf [] xs = []
+pointsOf (p ∷ ps) xs = record { position = p; value = getD xs 0 nan } ∷ pointsOf ps (drop 1 xs)
+
+abbrev pub positionsOf : List Point → List ℕ
+positionsOf ps = map (λ (p : Point). p .position) ps
+
+abbrev pub valuesOf : List Point → List Float
+valuesOf ps = map (λ (p : Point). p .value) ps
+
+-- 02, E8: "tied points now count as one, bearing the lowest value": a point before points that are merged, of which only the first may be tied with it
+unfoldable pub mergedWith : Point → List Point → List Point
+mergedWith p [] = p ∷ []
+mergedWith p (q ∷ qs) = cond (eqb (p .position) (q .position)) (record { position = p .position; value = minF (p .value) (q .value) } ∷ qs) (p ∷ q ∷ qs)
+
+-- a list never falls, so points that are tied stand side by side
+unfoldable pub merged : List Point → List Point
+merged [] = []
+merged (p ∷ ps) = mergedWith p (merged ps)
+
+-- 02, E8: "For the sweep's value, tied points now count as one, ..; all else takes the list as given."
+unfoldable pub sweepAt : List ℕ → List Float → ℕ → Float
+sweepAt ps xs n =
+    let m = merged (pointsOf ps xs) in
+    sweepOf (positionsOf m) (valuesOf m) n
 
 -- 800 Hz, f32 in the Rust
 abbrev pub filteredHz : Float

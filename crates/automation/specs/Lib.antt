@@ -1,3 +1,5 @@
 pub mod Automation
+pub mod Promise
+pub mod Kept
 pub mod Pieces
 pub mod Cases

@@ -4,6 +4,7 @@ ghost use mathlib.Core.Path.{_≡_};
 ghost use Prim.Native.Nat.{_<_, _≤_, min, max};
 ghost use lib.ListN.{length};
 ghost use Rattle.automation.specs.Automation.{blockOf, daylightOf, reached, segment, sweepAt, swept, cornerBetween, driveBetween, toneAt, tuningAt};
+ghost use Rattle.automation.specs.Kept.{runEnd, lowestTo};
 ghost use Rattle.automation.specs.Pieces.{Reached, rampSpan, sweepSpan, span, pieceAt};
 use ramp::Ramp;
 
@@ -94,7 +95,40 @@ fn segment(a: u64, xa: f64, b: u64, xb: f64, n: u64) -> f64
     xa + (xb - xa) * std::num::nearest_u64_to_f64(m - a) / std::num::nearest_u64_to_f64(b - a)
 }
 
-// How open the sweep is at n, i being the points reached.
+// Where the run of tied points that begins at i ends.
+fn run_end(positions: &[u64], i: usize) -> usize
+    requires { ⌜ i < length (now positions) ⌝ }
+    ensures { λ r. ⌜ r ≡ runEnd (now (positions .entry)) i ⌝ }
+{
+    let mut e = i + 1;
+    while e < positions.len() {
+        if positions[e] != positions[i] {
+            return e;
+        }
+        e += 1;
+    }
+    e
+}
+
+// The lowest value of the run of tied points that ends with the first e.
+fn lowest_to(positions: &[u64], values: &[f64], e: usize) -> f64
+    requires { ⌜ length (now positions) ≤ length (now values) ⌝ }
+    requires { ⌜ (0 < e) × (e ≤ length (now positions)) ⌝ }
+    ensures { λ r. ⌜ r ≡ lowestTo (now (positions .entry)) (now (values .entry)) e ⌝ }
+{
+    let mut i = e - 1;
+    let mut lowest = values[i];
+    while 0 < i {
+        if positions[i - 1] != positions[i] {
+            return lowest;
+        }
+        i -= 1;
+        lowest = casts::lesser(values[i], lowest);
+    }
+    lowest
+}
+
+// How open the sweep is at n, i being the points reached. Points on one position count as one with their lowest value.
 fn sweep_at(positions: &[u64], values: &[f64], i: usize, n: u64) -> f64
     requires { ⌜ length (now positions) ≤ length (now values) ⌝ }
     requires { ⌜ Reached (now positions) n i ⌝ }
@@ -103,10 +137,12 @@ fn sweep_at(positions: &[u64], values: &[f64], i: usize, n: u64) -> f64
     if i == 0 {
         return 1.0;
     }
+    let xa = lowest_to(positions, values, i);
     if i == positions.len() {
-        return values[i - 1];
+        return xa;
     }
-    segment(positions[i - 1], values[i - 1], positions[i], values[i], n)
+    let xb = lowest_to(positions, values, run_end(positions, i));
+    segment(positions[i - 1], xa, positions[i], xb, n)
 }
 
 // A corner, opened x of the way from FILTERED_HZ to it. Its ends need no pow.

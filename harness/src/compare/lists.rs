@@ -17,6 +17,13 @@ impl Met {
             self.0.insert(what);
         }
     }
+
+    /// Reports each of the things that matter that none of so many has met.
+    pub fn missed(&self, matters: &[&str], many: &str, report: &mut Report) {
+        for what in matters.iter().filter(|what| !self.0.contains(*what)) {
+            report.differs(0, format!("none of {many}, since none met: {what}"));
+        }
+    }
 }
 
 pub trait List: Shrink + Debug {
@@ -80,8 +87,8 @@ pub fn run<C: List>(rng: &mut Rng, budget: Budget) -> Report {
         let at = case.difference(&mut Met::default()).unwrap_or_default();
         report.differs(case.samples(), format!("{case:?}: {at}"));
     }
-    for what in C::MATTERS.iter().filter(|what| lists >= MANY && !met.0.contains(*what)) {
-        report.differs(0, format!("none of {lists} lists, since none met: {what}"));
+    if lists >= MANY {
+        met.missed(C::MATTERS, &format!("{lists} lists"), &mut report);
     }
     report
 }

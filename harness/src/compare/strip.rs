@@ -170,7 +170,8 @@ const ANSWERS: [(u64, &str); 9] =
     [(0, "0"), (1, "1"), (2, "2"), (3, "3"), (5, "5"), (7, "7"), (8, "8"), (REST, "sound"), (REST + 1, "rest")];
 
 impl List for Case {
-    const MATTERS: &[&str] = &["0", "1", "2", "3", "5", "7", "8", "sound", "rest", "rest after a sound"];
+    const MATTERS: &[&str] =
+        &["0", "1", "2", "3", "5", "7", "8", "sound", "rest", "rest after a sound", "a tie neared", "a tie reached"];
 
     fn drawn(rng: &mut Rng) -> Self {
         let many = 1 + rng.below(16) as usize;
@@ -197,6 +198,9 @@ impl List for Case {
         }
         let mut sounded = oracle.answers.iter().skip_while(|&&answer| answer != REST);
         met.note("rest after a sound", sounded.any(|&answer| answer == REST + 1));
+        let [neared, reached] = self.setup.ties(self.samples());
+        met.note("a tie neared", oracle.answers[0] == 0 && neared);
+        met.note("a tie reached", oracle.answers[0] == 0 && reached);
         lists::first("answer", &ours.answers, &oracle.answers)
             .or_else(|| lists::first("gain count", &ours.gains, &oracle.gains))
             .or_else(|| lists::first("side", &ours.frames, &oracle.frames))

@@ -77,7 +77,7 @@ impl Case {
 const UNTIL_REST: usize = 100_000;
 
 impl List for Case {
-    const MATTERS: &[&str] = &["rest after a sound", "sound", "NaN"];
+    const MATTERS: &[&str] = &["rest after a sound", "sound", "NaN", "a tie neared", "a tie reached"];
 
     fn drawn(rng: &mut Rng) -> Self {
         if rng.once_in(6) {
@@ -111,6 +111,9 @@ impl List for Case {
         met.note("rest after a sound", rest && oracle.iter().any(|&y| y != 0.0));
         met.note("sound", !rest);
         met.note("NaN", oracle.iter().any(|y| y.is_nan()));
+        let [neared, reached] = self.setup.ties(self.samples());
+        met.note("a tie neared", neared);
+        met.note("a tie reached", reached);
         lists::first("sample", &ours, &oracle).or_else(|| lists::first("rest answer", &[our_rest], &[rest]))
     }
 }

@@ -1,0 +1,47 @@
+-- 02's E8 as claims about the list merged, which know nothing of how it is merged. Proved as `ties` and `untied` in proofs/Ties.antt.
+use mathlib.Core.Path.{_≡_}
+use mathlib.Core.Bool.{not}
+use mathlib.Core.List.{List, [], _∷_, List·Memᴰ}
+use Prim.Native.Nat.{ℕ, _≤_, _<_}
+use lib.Dec.{T}
+use lib.Ieee.{Float, le, isNan}
+use Rattle.automation.specs.Automation.{Point, merged, sweepOf, sweepAt}
+
+-- "each list never falling"
+abbrev pub NeverFalls : List Point → Type 0
+NeverFalls [] = Unit {0}
+NeverFalls (p ∷ []) = Unit {0}
+NeverFalls (p ∷ q ∷ ps) = (p .position ≤ q .position) × NeverFalls (q ∷ ps)
+
+-- each lies after the one before it, so that no two are tied
+abbrev pub Rises : List Point → Type 0
+Rises [] = Unit {0}
+Rises (p ∷ []) = Unit {0}
+Rises (p ∷ q ∷ ps) = (p .position < q .position) × Rises (q ∷ ps)
+
+-- one of ms lies where p lies, and its value is not above p's
+pub record Lowest (p : Point) (ms : List Point) : Type 0 where
+  pub point : Point
+  pub among : List·Memᴰ point ms
+  pub position : point .position ≡ p .position
+  pub value : T (le (point .value) (p .value))
+
+-- "tied points now count as one, bearing the lowest value": no two are tied, each is one of the points given, and none of those has a lower value
+pub record Ties (ps ms : List Point) : Type 0 where
+  pub apart : Rises ms
+  pub given : (m : Point) → List·Memᴰ m ms → List·Memᴰ m ps
+  pub lowest : (p : Point) → List·Memᴰ p ps → Lowest p ms
+
+-- of every list that refusal 3 lets pass: it never falls, and no value is a NaN
+abbrev pub TiesCountAsOne : Type 0
+TiesCountAsOne = (ps : List Point) → NeverFalls ps → ((p : Point) → List·Memᴰ p ps → T (not (isNan (p .value)))) → Ties ps (merged ps)
+
+-- no two neighbours are tied
+abbrev pub Untied : List ℕ → Type 0
+Untied [] = Unit {0}
+Untied (p ∷ []) = Unit {0}
+Untied (p ∷ q ∷ ps) = (p ≡ q → ⊥) × Untied (q ∷ ps)
+
+-- a list without ties has the value that 01 gives it
+abbrev pub UntiedAsBefore : Type 0
+UntiedAsBefore = (ps : List ℕ) (xs : List Float) (n : ℕ) → Untied ps → sweepAt ps xs n ≡ sweepOf ps xs n
