@@ -45,14 +45,14 @@ run p (q ∷ ps) =
             value = minF (p .value) (r .value);
             rest = r .rest;
             whole = rw (r .whole) (with-tied p first (r .rest) e);
-            alone = rw (eq-eqb (p .position) (q .position) e, ap (λ (a : ℕ). tied a (positionsOf ps)) e, r .alone) (with-tied p first [] e)
+            alone = rw (eq-eqb (p .position) (q .position) e, ap (λ (a : ℕ). tied a (positionsOf ps)) e, r .alone) (with-tied p first [] e);
           }
       | no h ↦
           record {
             value = p .value;
             rest = first ∷ r .rest;
             whole = rw (r .whole) (with-apart p first (r .rest) h);
-            alone = rw (ne-eqb (p .position) (q .position) h)
+            alone = rw (ne-eqb (p .position) (q .position) h);
           }
     ]
 

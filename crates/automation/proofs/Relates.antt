@@ -133,20 +133,21 @@ module _ (ps : List Point) (n k : ℕ) (some : length ps ≡ suc k) (all : reach
         let long : length (positionsOf (a ++ b)) ≡ length a + length b = length-map (a ++ b) (λ (o : Point). o .position) ∙ length-append a b in
         let before : getD (a ++ b) last none ≡ getD a last none = List·getD-append a b none last (omega (arith, left)) in
         let after : getD (a ++ b) (length a) none ≡ first = getD-append-seam a first (r .rest) none in
-        rw
-        (merged-apart ps (q ∷ qs) apart
-        , r .whole
-        , count
-        , ne-eqb (length a) 0 (λ e. omega (arith, left))
-        , ne-eqb (length a) (length (positionsOf (a ++ b))) (λ e. omega arith)
-        , List·getD-map (λ (o : Point). o .position) (a ++ b) last none
-        , List·getD-map (λ (o : Point). o .value) (a ++ b) last none
-        , List·getD-map (λ (o : Point). o .position) (a ++ b) (length a) none
-        , List·getD-map (λ (o : Point). o .value) (a ++ b) (length a) none
-        , before
-        , after
-        , List·getD-map (λ (o : Point). o .value) a last none
-        , last-position ps k some last (omega (arith, left)))
+        rw (
+          merged-apart ps (q ∷ qs) apart,
+          r .whole,
+          count,
+          ne-eqb (length a) 0 (λ e. omega (arith, left)),
+          ne-eqb (length a) (length (positionsOf (a ++ b))) (λ e. omega arith),
+          List·getD-map (λ (o : Point). o .position) (a ++ b) last none,
+          List·getD-map (λ (o : Point). o .value) (a ++ b) last none,
+          List·getD-map (λ (o : Point). o .position) (a ++ b) (length a) none,
+          List·getD-map (λ (o : Point). o .value) (a ++ b) (length a) none,
+          before,
+          after,
+          List·getD-map (λ (o : Point). o .value) a last none,
+          last-position ps k some last (omega (arith, left)),
+        )
 
 -- ---- the same of a list of positions and a list of values
 module _ (ps : List ℕ) (xs : List Float) (n : ℕ) where

@@ -1,4 +1,4 @@
--- Document 01's marked cases, in one table, a as document 02 reworks it. Each is proved beside its definition; proofs/Cases.antt gathers them.
+-- Document 01's marked cases, in one table, a as document 02 reworks it, and beside f the same of tied points, as 02 has them count. Each is proved beside its definition; proofs/Cases.antt gathers them.
 use mathlib.Core.Path.{_≡_}
 use mathlib.Core.Bool.{true}
 use mathlib.Core.List.{[], _∷_, map}
@@ -11,6 +11,7 @@ use Rattle.ramp.specs.declared.Ramp.{Ramp}
 use Rattle.ramp.specs.Ramp.{rampAt, toward}
 use Rattle.ramp.specs.Cases.{rising}
 use Rattle.automation.specs.Automation.{blockOf, sweepAt, swept}
+use Rattle.automation.specs.Cases.{sixtyFourths, twoThenThree, threeThenTwo, allOnOne, samples}
 use Rattle.sidechain.specs.Sidechain.{sidechainGain}
 use Rattle.delay.specs.Delay.{atOf, tapOf}
 use Rattle.delay.specs.Cases.{line}
@@ -46,6 +47,11 @@ pub record Cases (r : CeilingRate) : Type 0 where
       × (closing 63 ≡ number 0x3fe5_0000_0000_0000)
       × (closing 64 ≡ number 0x3fc4_0000_0000_0000)
       × (closing 74 ≡ nought)
+  -- 02's E8: "tied points now count as one, bearing the lowest value", at 9, 10, 31, 32, 63, 64, 73 and 74, of points of which two lie on 10 and three on 74, three and two, and all on 10
+  pub ties :
+      (map twoThenThree samples ≡ one ∷ half ∷ half ∷ sixtyFourths 21 ∷ sixtyFourths 21 ∷ sixtyFourths 5 ∷ sixtyFourths 5 ∷ nought ∷ [])
+      × (map threeThenTwo samples ≡ one ∷ sixtyFourths 16 ∷ sixtyFourths 16 ∷ sixtyFourths 27 ∷ sixtyFourths 27 ∷ sixtyFourths 43 ∷ sixtyFourths 43 ∷ sixtyFourths 48 ∷ [])
+      × (map allOnOne samples ≡ one ∷ sixtyFourths 16 ∷ sixtyFourths 16 ∷ sixtyFourths 16 ∷ sixtyFourths 16 ∷ sixtyFourths 16 ∷ sixtyFourths 16 ∷ sixtyFourths 16 ∷ [])
   -- "Own 8000: value 1 gives 8000, 0 gives 800; own 700, value 0: 700."
   pub g : (swept (whole 8000) one ≡ whole 8000) × (swept (whole 8000) nought ≡ whole 800) × (swept (whole 700) nought ≡ whole 700)
   -- "Sidechain, attack 4, release 4, floor 0.5: since 0, 2, 4, 6, 8 gives 1, 0.75, 0.5, 0.75, 1."
