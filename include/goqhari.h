@@ -100,7 +100,8 @@ enum goqhari_flag {
  * Opens a strip at position 0.
  * singles: corner (or night corner), day corner, night drive, day drive, swell rate, swell depth, daylight, rain.
  * doubles: drive of a fixed tone, gain in, gain out, send. Numbers that the flags leave out are not looked at.
- * positions and values: the sweep's points, as many of the one as of the other. kicks: the positions of the kicks.
+ * positions and values: the sweep's points, as many of the one as of the other. Points on one position count as one with the
+ * lowest of their values, on the way to it and from it on. kicks: the positions of the kicks.
  * The lists are copied into the stores. What the four lists of the strip held before does not matter.
  */
 uint64_t goqhari_open(const float singles[8], const double doubles[4], uint64_t flags,

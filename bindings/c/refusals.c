@@ -230,6 +230,10 @@ static void bad_lists(void) {
     o.positions = far;
     declined("a point past 2^32", 3, open_in(o, whole));
     o = good;
+    o.positions = many, o.values = half, o.positions_len = o.values_len = 256;
+    accepted("256 points on one sample", open_in(o, whole));
+    fresh();
+    o = good;
     o.kicks_len = 3;
     o.kicks = falling;
     declined("falling kicks", 3, open_in(o, whole));
@@ -401,7 +405,7 @@ static void play_unwritten(uint64_t flags, const uint64_t *kicked, size_t kicks_
         for (int i = 4; i < 6; i++) singles[i] = good.singles[i];
     for (int i = 6; i < 8; i++) singles[i] = good.singles[i];
     for (int i = 1; i < 4; i++) doubles[i] = good.doubles[i];
-    for (size_t i = 0; i < points; i++) positions[i] = 20 * i, values[i] = i % 2 ? 0.25 : 0.75;
+    for (size_t i = 0; i < points; i++) positions[i] = 20 * (i / 2), values[i] = i % 2 ? 0.25 : 0.75;
     for (size_t i = 0; i < kicks_len; i++) kicks[i] = kicked[i];
     accepted("open in memory that nothing has written",
              goqhari_open(singles, doubles, flags, positions, points, values, points, kicks, kicks_len, numbers, GOQHARI_NUMBERS,

@@ -74,6 +74,14 @@ fn lane(sweeping: bool) -> Setup {
     }
 }
 
+/// Swept between two samples on which as many points are stacked as a strip takes.
+fn stacked() -> Setup {
+    let swept = lane(true);
+    let points = swept.points.iter().flat_map(|&at| [at; 128]).collect();
+    let values = swept.values.iter().flat_map(|&value| [value; 128]).collect();
+    Setup { points, values, ..swept }
+}
+
 /// One corner, no pad, no duck.
 fn plain() -> Setup {
     Setup { graded: false, pad: None, darkens: false, ducked: false, kicks: Vec::new(), ..lane(false) }
@@ -272,6 +280,7 @@ fn main() {
     println!("name\tcall\tleast\tmiddle\tmost\tleast, middle and most without the calls' own cost");
     for size in [1, 16, 64, 1024] {
         strip("everything, moving", &lane(true), true, &x, size, rounds);
+        strip("256 tied points", &stacked(), true, &x, size, rounds);
         strip("plain, fixed", &plain(), false, &x, size, rounds);
         strip("1,024 kicks", &crowded(), false, &x[..8192], size, rounds);
         strip("512 kicks in attack", &attacking(), false, &x[..ATTACK], size, rounds);

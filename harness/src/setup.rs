@@ -103,7 +103,8 @@ impl Setup {
     pub fn drawn(rng: &mut Rng, span: u64) -> Self {
         let ties = rng.pick(&[8, 8, 8, 2, 2, 2, 2, 1]);
         let points = if rng.flag() { positions(rng, 256, span, ties) } else { Vec::new() };
-        let values = points.iter().map(|_| if rng.once_in(3) { rng.pick(&[0.0, 1.0, 0.5, -0.0]) } else { rng.unit() }).collect();
+        let mut value = |_| if rng.once_in(3) { rng.pick(&[0.0, 1.0, 0.5, -0.0]) } else { rng.unit() };
+        let values = points.iter().map(&mut value).collect();
         Self {
             graded: rng.flag(),
             corners: [corner(rng), corner(rng)],
@@ -139,17 +140,18 @@ impl Setup {
         Automation::new(Controls { daylight: self.daylight, rain: self.rain }, sweep)
     }
 
-    /// Whether within `len` samples a tie changes what the Rust makes of the list as given: on the way to it, where the Rust takes the
-    /// tie's first point, and from it on, where it takes the last.
+    /// Whether within `len` samples a tie may change what the Rust makes of the list as given: on the way to it, where the Rust takes
+    /// the tie's first point, and from it on, where it takes the last.
     pub fn ties(&self, len: u64) -> [bool; 2] {
         let open = self.corners[0] > 800.0 && (!self.graded || self.corners[1] > 800.0);
         let given: Vec<_> = self.points.iter().copied().zip(self.values.iter().copied()).collect();
         let tied: Vec<_> = given.chunk_by(|a, b| a.0 == b.0).collect();
         let lowest: Vec<_> = merged(&self.points, &self.values).into_iter().map(|(_, value)| value).collect();
-        let reached = |i: usize| (0..len).contains(&tied[i][0].0) && tied[i].last().is_some_and(|last| last.1 != lowest[i]);
+        let at = |i: usize| tied[i][0].0;
+        let reached = |i: usize| at(i) < len && tied[i].last().is_some_and(|last| last.1 != lowest[i]);
         let neared = |i: usize| {
-            let block = (tied[i - 1][0].0 / 32 + 1) * 32;
-            block < len && block < tied[i][0].0 && tied[i][0].1 != lowest[i]
+            let block = (at(i - 1) / 32 + 1) * 32;
+            block < len && block < at(i) && tied[i][0].1 != lowest[i]
         };
         [open && (1..tied.len()).any(neared), open && (0..tied.len()).any(reached)]
     }

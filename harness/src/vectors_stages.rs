@@ -265,7 +265,7 @@ fn runs() -> Vec<(u64, bool)> {
 /// The lane under kicks.
 fn kicks(rng: &mut Rng) {
     let points = vec![500, 500, 4000, 4000];
-    let values = vec![0.75, 1.0, 0.25, 0.5];
+    let values = vec![0.75, 1.0, 0.5, 0.25];
     let setup = Setup { points, values, kicks: KICKS.to_vec(), ..everything() };
     let calls: Vec<Call> = runs().into_iter().map(|(len, drums)| Call::Run(len, drums)).collect();
     lane("kicks", &setup, &noise(rng, 1.2), &calls);

@@ -102,7 +102,7 @@ pub struct Setup<'a> {
     pub rain: f32,
     /// How much of the lane is sent to the plate, 0 to 1.
     pub send: f64,
-    /// The sweep's positions, at most 256, never falling.
+    /// The sweep's positions, at most 256, never falling. Points on one position count as one with the lowest of their values.
     pub positions: &'a [u64],
     /// The sweep's values at those, 0 (closed to 800 Hz) to 1 (open).
     pub values: &'a [f64],

@@ -69,6 +69,28 @@ fn any_division_gives_the_same() {
     assert!(peak <= CEILING && peak > 0.9 * CEILING, "{peak}");
 }
 
+/// What a strip with one corner plays under these points.
+fn swept(positions: &[u64], values: &[f64]) -> Vec<[f32; 2]> {
+    let (mut store, mut counts) = stores();
+    let setup = Setup { tone: Tone::Fixed { corner: 8000.0, drive: 1.0 }, positions, values, ..Setup::default() };
+    let mut strip = Strip::open(&setup, &mut store, &mut counts).unwrap();
+    let signal = signal();
+    let mut frames = vec![[0.0; 2]; signal.len()];
+    strip.run(&signal, true, &mut frames, &mut vec![0; signal.len()]).unwrap();
+    frames
+}
+
+#[test]
+fn tied_points_count_as_one_with_the_lowest_value() {
+    let lowest = swept(&[10, 74], &[0.5, 0.25]);
+    assert_eq!(swept(&[10, 10, 74, 74, 74], &[0.5, 0.75, 1.0, 0.25, 0.5]), lowest);
+    assert_eq!(swept(&[10, 10, 10, 74, 74], &[1.0, 0.5, 0.75, 0.25, 0.75]), lowest);
+    assert_eq!(swept(&[10; 256], &[0.5; 256]), swept(&[10], &[0.5]));
+    for other in [[0.75, 0.25], [0.5, 1.0], [0.5, 0.5]] {
+        assert_ne!(swept(&[10, 74], &other), lowest, "{other:?}");
+    }
+}
+
 #[test]
 fn a_fresh_strip_rests() {
     let (mut store, mut counts) = stores();

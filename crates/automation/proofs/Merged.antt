@@ -1,10 +1,10 @@
--- Tied points, merged: where a list may be parted, the run at its front, its last, and how many are reached. Assumes nothing.
-use mathlib.Core.Path.{_≡_, refl, sym, ap, _∙_}
-use mathlib.Core.List.{List, [], _∷_, _++_, append-nil}
-use Prim.Native.Nat.{ℕ, zero, suc, _+_, _-_, _≤_, _<_}
+-- Tied points, merged: where a list may be parted, the tie at its front, its last, and how many are reached. Assumes nothing.
+use mathlib.Core.Path.{_≡_, refl, ap, _∙_}
+use mathlib.Core.List.{List, [], _∷_, _++_}
+use Prim.Native.Nat.{ℕ, zero, suc, _≤_, _<_}
 use native.Mathlib.Decide.{ℕ-discrete, decLe}
 use native.Mathlib.Omega.{arith}
-use lib.ListN.{length, take, drop, getD}
+use lib.ListN.{length, take, getD}
 use lib.Ieee.{Float, nan}
 use borrow.Author.Tests.{le-leb, lt-leb, eq-eqb, ne-eqb}
 use Rattle.casts.specs.Least.{minF}
@@ -14,8 +14,8 @@ use Rattle.automation.specs.Kept.{tied}
 abbrev pub point : ℕ → Float → Point
 point p x = record { position = p; value = x }
 
-abbrev pub none : Point
-none = point 0 nan
+abbrev pub noPoint : Point
+noPoint = point 0 nan
 
 -- a point before merged ones: tied with their first, and apart from it
 pub with-tied : (p q : Point) (qs : List Point) → p .position ≡ q .position → mergedWith p (q ∷ qs) ≡ point (p .position) (minF (p .value) (q .value)) ∷ qs
@@ -26,18 +26,18 @@ pub with-apart : (p q : Point) (qs : List Point) → (p .position ≡ q .positio
 unfolding mergedWith
 with-apart p q qs h = rw (ne-eqb (p .position) (q .position) h)
 
--- the run at a list's front, merged, is the first of the list merged
-pub record Run (p : Point) (ps : List Point) : Type 0 where
+-- the tie at a list's front, merged, is the first of the list merged
+pub record Front (p : Point) (ps : List Point) : Type 0 where
   pub value : Float
   pub rest : List Point
   pub whole : merged (p ∷ ps) ≡ point (p .position) value ∷ rest
   pub alone : merged (p ∷ take (tied (p .position) (positionsOf ps)) ps) ≡ point (p .position) value ∷ []
 
-pub run : (p : Point) (ps : List Point) → Run p ps
+pub front : (p : Point) (ps : List Point) → Front p ps
 unfolding merged mergedWith tied
-run p [] = record { value = p .value; rest = []; whole = refl; alone = refl }
-run p (q ∷ ps) =
-    let r = run q ps in
+front p [] = record { value = p .value; rest = []; whole = refl; alone = refl }
+front p (q ∷ ps) =
+    let r = front q ps in
     let first = point (q .position) (r .value) in
     elim (ℕ-discrete (p .position) (q .position)) [
       | yes e ↦
@@ -56,7 +56,7 @@ run p (q ∷ ps) =
           }
     ]
 
--- what stands behind merged points that are not none stays there
+-- what stands behind merged points stays there, where there are some
 with-behind : (p q : Point) (qs rs : List Point) → mergedWith p (q ∷ qs ++ rs) ≡ mergedWith p (q ∷ qs) ++ rs
 unfolding mergedWith
 with-behind p q qs rs = elim (ℕ-discrete (p .position) (q .position)) [
@@ -65,32 +65,32 @@ with-behind p q qs rs = elim (ℕ-discrete (p .position) (q .position)) [
 ]
 
 -- the last of the one list is not tied with the first of the other
-abbrev pub Apart : List Point → List Point → Type 0
-Apart ps qs = (k : ℕ) → length ps ≡ suc k → 0 < length qs → getD ps k none .position ≡ getD qs 0 none .position → ⊥
+abbrev pub NotTied : List Point → List Point → Type 0
+NotTied ps qs = (k : ℕ) → length ps ≡ suc k → 0 < length qs → getD ps k noPoint .position ≡ getD qs 0 noPoint .position → ⊥
 
 -- such lists are merged each by itself
-pub merged-apart : (ps qs : List Point) → Apart ps qs → merged (ps ++ qs) ≡ merged ps ++ merged qs
+pub merged-apart : (ps qs : List Point) → NotTied ps qs → merged (ps ++ qs) ≡ merged ps ++ merged qs
 unfolding merged mergedWith
 merged-apart [] qs h = refl
 merged-apart (p ∷ []) [] h = refl
 merged-apart (p ∷ []) (q ∷ qs) h =
-    let r = run q qs in
+    let r = front q qs in
     rw (r .whole) (with-apart p (point (q .position) (r .value)) (r .rest) (h 0 refl (omega arith)))
 merged-apart (p ∷ q ∷ ps) qs h =
-    let r = run q ps in
+    let r = front q ps in
     rw (merged-apart (q ∷ ps) qs (λ k s. h (suc k) (ap suc s)), r .whole) (with-behind p (point (q .position) (r .value)) (r .rest) (merged qs))
 
 -- of two lists that part in the first's value alone, each point lies where it lies in the other
-elsewhere : (p q : Point) (ps : List Point) (k : ℕ) → p .position ≡ q .position → getD (p ∷ ps) k none .position ≡ getD (q ∷ ps) k none .position
-elsewhere p q ps zero e = e
-elsewhere p q ps (suc k) e = refl
+same-position : (p q : Point) (ps : List Point) (k : ℕ) → p .position ≡ q .position → getD (p ∷ ps) k noPoint .position ≡ getD (q ∷ ps) k noPoint .position
+same-position p q ps zero e = e
+same-position p q ps (suc k) e = refl
 
 -- some are left where there are some, and the last lies where it lay
 pub merged-some : (ps : List Point) → 0 < length ps → 0 < length (merged ps)
 merged-some [] h = absurd (omega arith)
-merged-some (p ∷ ps) h = rw (run p ps .whole) (omega arith)
+merged-some (p ∷ ps) h = rw (front p ps .whole) (omega arith)
 
-pub last-position : (ps : List Point) (k : ℕ) → length ps ≡ suc k → (l : ℕ) → length (merged ps) ≡ suc l → getD (merged ps) l none .position ≡ getD ps k none .position
+pub last-position : (ps : List Point) (k : ℕ) → length ps ≡ suc k → (l : ℕ) → length (merged ps) ≡ suc l → getD (merged ps) l noPoint .position ≡ getD ps k noPoint .position
 unfolding merged mergedWith
 last-position [] k s l t = absurd (omega arith)
 last-position (p ∷ []) zero s zero t = refl
@@ -98,14 +98,14 @@ last-position (p ∷ []) zero s (suc l) t = absurd (omega arith)
 last-position (p ∷ []) (suc k) s l t = absurd (omega arith)
 last-position (p ∷ q ∷ ps) zero s l t = absurd (omega arith)
 last-position (p ∷ q ∷ ps) (suc k) s l t =
-    let r = run q ps in
+    let r = front q ps in
     let first = point (q .position) (r .value) in
     let h = rw (r .whole) at (last-position (q ∷ ps) k (omega arith)) in
     let u = rw (r .whole) at t in
     elim (ℕ-discrete (p .position) (q .position)) [
       | yes e ↦
           let v = rw (with-tied p first (r .rest) e) at u in
-          rw (r .whole, with-tied p first (r .rest) e) (elsewhere (point (p .position) (minF (p .value) (r .value))) first (r .rest) l e ∙ h l v)
+          rw (r .whole, with-tied p first (r .rest) e) (same-position (point (p .position) (minF (p .value) (r .value))) first (r .rest) l e ∙ h l v)
       | no g ↦
           let v = rw (with-apart p first (r .rest) g) at u in
           let w : l ≡ suc (length (r .rest)) = omega arith in
@@ -135,5 +135,5 @@ unfolding merged reached
 none-reached [] n h = refl
 none-reached (p ∷ ps) n h = elim (decLe (p .position) n) [
   | yes k ↦ let g = rw (le-leb (p .position) n k) at h in absurd (omega arith)
-  | no k ↦ rw (run p ps .whole, lt-leb (p .position) n (omega arith))
+  | no k ↦ rw (front p ps .whole, lt-leb (p .position) n (omega arith))
 ]

@@ -1,4 +1,4 @@
--- The points that are reached, those after them, and those of a run. Assumes nothing.
+-- The points that are reached, those after them, and those of a tie. Assumes nothing.
 use mathlib.Core.Path.{_≡_, refl, ap}
 use mathlib.Core.List.{List, [], _∷_}
 use Prim.Native.Nat.{ℕ, zero, suc, _+_, _≤_, _<_}
@@ -9,7 +9,7 @@ use lib.ListN.{length, drop, getD, length-drop, drop-of-length-le}
 use lib.Seq.{drop-cons}
 use borrow.Author.Tests.{le-leb, lt-leb, eq-eqb, ne-eqb}
 use Rattle.automation.specs.Automation.{reached}
-use Rattle.automation.specs.Kept.{tied, runEnd}
+use Rattle.automation.specs.Kept.{tied, tieEnd}
 
 pub reached-most : (ps : List ℕ) (n : ℕ) → reached ps n ≤ length ps
 unfolding reached
@@ -68,7 +68,7 @@ pub none-left : (ps : List ℕ) (i n : ℕ) → length ps ≤ i → reached (dro
 unfolding reached
 none-left ps i n h = rw (drop-of-length-le ps h)
 
--- the same of a run
+-- the same of a tie
 pub one-tied : (ps : List ℕ) (i p : ℕ) → i < length ps → p ≡ getD ps i 0 → tied p (drop i ps) ≡ suc (tied p (drop (i + 1) ps))
 unfolding tied
 one-tied ps i p h k = rw (add-one i, drop-cons ps i 0 h, eq-eqb _ _ k)
@@ -89,9 +89,9 @@ tied-most p (q ∷ ps) = elim (ℕ-discrete p q) [
   | no h ↦ rw (ne-eqb p q h) (omega arith)
 ]
 
--- a run has its first point, and ends within the list
-pub run-within : (ps : List ℕ) (i : ℕ) → i < length ps → (i < runEnd ps i) × (runEnd ps i ≤ length ps)
-unfolding runEnd
-run-within ps i h =
+-- a tie has its first point, and ends within the list
+pub tie-within : (ps : List ℕ) (i : ℕ) → i < length ps → (i < tieEnd ps i) × (tieEnd ps i ≤ length ps)
+unfolding tieEnd
+tie-within ps i h =
     let p = getD ps i 0 in
     (omega (arith, one-tied ps i p h refl), omega (arith, tied-most p (drop i ps), length-drop i ps))

@@ -7,15 +7,18 @@ use Prim.Native.Nat.{ℕ, _-_, _≤_, _<_}
 use native.Mathlib.Decide.{ℕ-discrete}
 use native.Mathlib.Omega.{arith}
 use lib.ListN.{length, getD, List·getD-map}
-use lib.Dec.{T}
+use lib.Dec.{T, leb, leb→le}
 use lib.Ieee.{Float, nan, lt, le, isNan}
+use lib.Ieee.Fits.{and-l, and-r}
 use borrow.Author.Tests.{eq-eqb, ne-eqb}
-use Rattle.casts.specs.Order.{le-refl-any, le-trans-any, not-lt→le}
+use Rattle.casts.specs.Arithmetic.{nought, one}
+use Rattle.casts.specs.Order.{le-refl-any, le-trans-any, not-lt→le, le-clean-right}
 use Rattle.casts.specs.Least.{minF, min-left}
+use Rattle.ranges.specs.Ranges.{lastPosition, inRange, allInRange, risingFrom}
 use Rattle.automation.specs.Automation.{Point, pointsOf, positionsOf, valuesOf, mergedWith, merged, reached, sweepOf, sweepAt}
-use Rattle.automation.specs.Promise.{NeverFalls, Rises, Lowest, Ties, TiesCountAsOne, Untied, UntiedAsBefore}
+use Rattle.automation.specs.Promise.{EachLater, Lowest, MergedTo, TiesCountAsOne, Untied, UntiedAsBefore}
 use Rattle.automation.proofs.Points.{reached-most}
-use Rattle.automation.proofs.Merged.{point, none, with-tied, with-apart, run}
+use Rattle.automation.proofs.Merged.{point, noPoint, with-tied, with-apart, front}
 use Rattle.automation.proofs.Relates.{positions-given, point-given}
 
 -- ---- the lesser of two values is one of them, and is not above the second
@@ -37,18 +40,18 @@ min-right a b p q = go (lt b a) refl
 abbrev Clean : List Point → Type 0
 Clean ps = (p : Point) → List·Memᴰ p ps → T (not (isNan (p .value)))
 
--- whether a list rises is read off positions alone
-rises-from : (p q : Point) (qs : List Point) → p .position ≡ q .position → Rises (q ∷ qs) → Rises (p ∷ qs)
-rises-from p q [] e h = tt
-rises-from p q (r ∷ qs) e h = (omega (arith, h .0), h .1)
+-- whether each lies later is read off positions alone
+later-from : (p q : Point) (qs : List Point) → p .position ≡ q .position → EachLater (positionsOf (q ∷ qs)) → EachLater (positionsOf (p ∷ qs))
+later-from p q [] e h = tt
+later-from p q (r ∷ qs) e h = (omega (arith, h .0), h .1)
 
 module _ (p : Point) (ps : List Point) (clean : Clean (p ∷ ps)) where
   p-clean : T (not (isNan (p .value)))
   p-clean = clean p (List·Memᴰ·head refl)
 
   -- it is tied with none of them, and stands before them as it is
-  ties-apart : (ms : List Point) → Rises (p ∷ ms) → Ties ps ms → Ties (p ∷ ps) (p ∷ ms)
-  ties-apart ms h t = record { apart = h; given = given; lowest = lowest }
+  ties-apart : (ms : List Point) → EachLater (positionsOf (p ∷ ms)) → MergedTo ps ms → MergedTo (p ∷ ps) (p ∷ ms)
+  ties-apart ms h t = record { later = h; given = given; lowest = lowest }
     where
       given : (m : Point) → List·Memᴰ m (p ∷ ms) → List·Memᴰ m (p ∷ ps)
       given m i = elim (List·Memᴰ·cases-cons i) [
@@ -63,7 +66,7 @@ module _ (p : Point) (ps : List Point) (clean : Clean (p ∷ ps)) where
       ]
 
   -- it is tied with the first of them, and the two become one
-  module _ (q : Point) (qs : List Point) (t : Ties ps (q ∷ qs)) (e : p .position ≡ q .position) where
+  module _ (q : Point) (qs : List Point) (t : MergedTo ps (q ∷ qs)) (e : p .position ≡ q .position) where
     abbrev both : Point
     both = point (p .position) (minF (p .value) (q .value))
 
@@ -96,8 +99,8 @@ module _ (p : Point) (ps : List Point) (clean : Clean (p ∷ ps)) where
       | inr j ↦ record { point = l .point; among = List·Memᴰ·tail j; position = l .position; value = l .value }
     ]
 
-    ties-tied : Ties (p ∷ ps) (both ∷ qs)
-    ties-tied = record { apart = rises-from both q qs e (t .apart); given = given; lowest = lowest }
+    ties-tied : MergedTo (p ∷ ps) (both ∷ qs)
+    ties-tied = record { later = later-from both q qs e (t .later); given = given; lowest = lowest }
       where
         given : (m : Point) → List·Memᴰ m (both ∷ qs) → List·Memᴰ m (p ∷ ps)
         given m i = elim (List·Memᴰ·cases-cons i) [
@@ -116,27 +119,38 @@ abbrev Before : Point → List Point → Type 0
 Before p [] = Unit {0}
 Before p (q ∷ qs) = p .position ≤ q .position
 
-before-merged : (p : Point) (ps : List Point) → NeverFalls (p ∷ ps) → Before p (merged ps)
-unfolding merged
+before-merged : (p : Point) (ps : List Point) → T (risingFrom (p .position) (positionsOf ps)) → Before p (merged ps)
+unfolding merged risingFrom
 before-merged p [] h = tt
-before-merged p (q ∷ ps) h = rw (run q ps .whole) (h .0)
+before-merged p (q ∷ ps) h = rw (front q ps .whole) (leb→le (p .position) (q .position) (and-l (leb (p .position) (q .position)) _ h))
 
-ties-with : (p : Point) (ps ms : List Point) → Clean (p ∷ ps) → Before p ms → Ties ps ms → Ties (p ∷ ps) (mergedWith p ms)
+ties-with : (p : Point) (ps ms : List Point) → Clean (p ∷ ps) → Before p ms → MergedTo ps ms → MergedTo (p ∷ ps) (mergedWith p ms)
 unfolding mergedWith
 ties-with p ps [] clean h t = ties-apart p ps clean [] tt t
 ties-with p ps (q ∷ qs) clean h t = elim (ℕ-discrete (p .position) (q .position)) [
   | yes e ↦ rw (with-tied p q qs e) (ties-tied p ps clean q qs t e)
-  | no g ↦ rw (with-apart p q qs g) (ties-apart p ps clean (q ∷ qs) (omega arith, t .apart) t)
+  | no g ↦ rw (with-apart p q qs g) (ties-apart p ps clean (q ∷ qs) (omega arith, t .later) t)
 ]
 
-falls-behind : (p : Point) (ps : List Point) → NeverFalls (p ∷ ps) → NeverFalls ps
-falls-behind p [] h = tt
-falls-behind p (q ∷ ps) h = h .1
+-- a value in a range is no NaN
+in-range-clean : (ps : List Point) → T (allInRange nought one (valuesOf ps)) → Clean ps
+unfolding allInRange inRange
+in-range-clean [] h p i = absurd (List·Memᴰ·not-nil i)
+in-range-clean (q ∷ ps) h p i = elim (List·Memᴰ·cases-cons i) [
+  | inl e ↦ rw e (le-clean-right nought (q .value) (and-l (le nought (q .value)) (le (q .value) one) (and-l (inRange nought one (q .value)) (allInRange nought one (valuesOf ps)) h)))
+  | inr j ↦ in-range-clean ps (and-r (inRange nought one (q .value)) (allInRange nought one (valuesOf ps)) h) p j
+]
+
+-- of a list from any position on
+ties-from : (b : ℕ) (ps : List Point) → T (risingFrom b (positionsOf ps)) → Clean ps → MergedTo ps (merged ps)
+unfolding merged risingFrom
+ties-from b [] h clean = record { later = tt; given = λ m i. i; lowest = λ o i. absurd (List·Memᴰ·not-nil i) }
+ties-from b (p ∷ ps) h clean =
+    let behind = and-r (leb (p .position) lastPosition) (risingFrom (p .position) (positionsOf ps)) (and-r (leb b (p .position)) _ h) in
+    ties-with p ps (merged ps) clean (before-merged p ps behind) (ties-from (p .position) ps behind (λ o i. clean o (List·Memᴰ·tail i)))
 
 pub ties : TiesCountAsOne
-unfolding merged
-ties [] h clean = record { apart = tt; given = λ m i. i; lowest = λ o i. absurd (List·Memᴰ·not-nil i) }
-ties (p ∷ ps) h clean = ties-with p ps (merged ps) clean (before-merged p ps h) (ties ps (falls-behind p ps h) (λ o i. clean o (List·Memᴰ·tail i)))
+ties ps h g = ties-from 0 ps h (in-range-clean ps g)
 
 -- ---- a list without ties is as it was
 merged-untied : (ps : List Point) → Untied (positionsOf ps) → merged ps ≡ ps
@@ -147,7 +161,7 @@ merged-untied (p ∷ q ∷ ps) h = rw (merged-untied (q ∷ ps) (h .1)) (with-ap
 
 module _ (ps : List ℕ) (xs : List Float) where
   value-given : (k : ℕ) → k < length ps → getD (valuesOf (pointsOf ps xs)) k nan ≡ getD xs k nan
-  value-given k h = List·getD-map (λ (p : Point). p .value) (pointsOf ps xs) k none ∙ ap (λ (p : Point). p .value) (point-given ps xs k h)
+  value-given k h = List·getD-map (λ (p : Point). p .value) (pointsOf ps xs) k noPoint ∙ ap (λ (p : Point). p .value) (point-given ps xs k h)
 
   -- values are read at points alone, so those that the points bear will do
   sweep-given : (n : ℕ) → sweepOf ps (valuesOf (pointsOf ps xs)) n ≡ sweepOf ps xs n

@@ -43,14 +43,14 @@ threeThenTwo n = sweepAt (10 ∷ 10 ∷ 10 ∷ 74 ∷ 74 ∷ []) (one ∷ sixtyF
 abbrev pub allOnOne : ℕ → Float
 allOnOne n = sweepAt (10 ∷ 10 ∷ 10 ∷ []) (sixtyFourths 48 ∷ sixtyFourths 16 ∷ half ∷ []) n
 
-abbrev pub samples : List ℕ
-samples = 9 ∷ 10 ∷ 31 ∷ 32 ∷ 63 ∷ 64 ∷ 73 ∷ 74 ∷ []
+abbrev pub positions : List ℕ
+positions = 9 ∷ 10 ∷ 31 ∷ 32 ∷ 63 ∷ 64 ∷ 73 ∷ 74 ∷ []
 
--- at 9, 1; at 10 and 31, the lowest of the first tie; at 32 and 63, and at 64 and 73, on the way from there to the lowest of the second; at 74, that
+-- at 9, 1; at 10 and 31, the lowest of the first tie; at 32 and 63, and at 64 and 73, on the way from there to the lowest of the second; at 74, that. Of the third list the lowest from 10 on
 pub case-ties :
-    (map twoThenThree samples ≡ one ∷ half ∷ half ∷ sixtyFourths 21 ∷ sixtyFourths 21 ∷ sixtyFourths 5 ∷ sixtyFourths 5 ∷ nought ∷ [])
-    × (map threeThenTwo samples ≡ one ∷ sixtyFourths 16 ∷ sixtyFourths 16 ∷ sixtyFourths 27 ∷ sixtyFourths 27 ∷ sixtyFourths 43 ∷ sixtyFourths 43 ∷ sixtyFourths 48 ∷ [])
-    × (map allOnOne samples ≡ one ∷ sixtyFourths 16 ∷ sixtyFourths 16 ∷ sixtyFourths 16 ∷ sixtyFourths 16 ∷ sixtyFourths 16 ∷ sixtyFourths 16 ∷ sixtyFourths 16 ∷ [])
+    (map twoThenThree positions ≡ one ∷ half ∷ half ∷ sixtyFourths 21 ∷ sixtyFourths 21 ∷ sixtyFourths 5 ∷ sixtyFourths 5 ∷ nought ∷ [])
+    × (map threeThenTwo positions ≡ one ∷ sixtyFourths 16 ∷ sixtyFourths 16 ∷ sixtyFourths 27 ∷ sixtyFourths 27 ∷ sixtyFourths 43 ∷ sixtyFourths 43 ∷ sixtyFourths 48 ∷ [])
+    × (map allOnOne positions ≡ one ∷ sixtyFourths 16 ∷ sixtyFourths 16 ∷ sixtyFourths 16 ∷ sixtyFourths 16 ∷ sixtyFourths 16 ∷ sixtyFourths 16 ∷ sixtyFourths 16 ∷ [])
 unfolding sweepAt sweepOf pointsOf mergedWith merged reached segment blockOf ofBits ofInt add sub mul div lt
 case-ties = (refl, refl, refl)
 

@@ -4,7 +4,7 @@ ghost use mathlib.Core.Path.{_≡_};
 ghost use Prim.Native.Nat.{_<_, _≤_, min, max};
 ghost use lib.ListN.{length};
 ghost use Rattle.automation.specs.Automation.{blockOf, daylightOf, reached, segment, sweepAt, swept, cornerBetween, driveBetween, toneAt, tuningAt};
-ghost use Rattle.automation.specs.Kept.{runEnd, lowestTo};
+ghost use Rattle.automation.specs.Kept.{tieEnd, lowestTo};
 ghost use Rattle.automation.specs.Pieces.{Reached, rampSpan, sweepSpan, span, pieceAt};
 use ramp::Ramp;
 
@@ -95,10 +95,10 @@ fn segment(a: u64, xa: f64, b: u64, xb: f64, n: u64) -> f64
     xa + (xb - xa) * std::num::nearest_u64_to_f64(m - a) / std::num::nearest_u64_to_f64(b - a)
 }
 
-// Where the run of tied points that begins at i ends.
-fn run_end(positions: &[u64], i: usize) -> usize
+// Where the tie that begins at i ends.
+fn tie_end(positions: &[u64], i: usize) -> usize
     requires { ⌜ i < length (now positions) ⌝ }
-    ensures { λ r. ⌜ r ≡ runEnd (now (positions .entry)) i ⌝ }
+    ensures { λ r. ⌜ r ≡ tieEnd (now (positions .entry)) i ⌝ }
 {
     let mut e = i + 1;
     while e < positions.len() {
@@ -110,7 +110,7 @@ fn run_end(positions: &[u64], i: usize) -> usize
     e
 }
 
-// The lowest value of the run of tied points that ends with the first e.
+// The lowest value of the tie that ends with the first e points.
 fn lowest_to(positions: &[u64], values: &[f64], e: usize) -> f64
     requires { ⌜ length (now positions) ≤ length (now values) ⌝ }
     requires { ⌜ (0 < e) × (e ≤ length (now positions)) ⌝ }
@@ -141,7 +141,7 @@ fn sweep_at(positions: &[u64], values: &[f64], i: usize, n: u64) -> f64
     if i == positions.len() {
         return xa;
     }
-    let xb = lowest_to(positions, values, run_end(positions, i));
+    let xb = lowest_to(positions, values, tie_end(positions, i));
     segment(positions[i - 1], xa, positions[i], xb, n)
 }
 

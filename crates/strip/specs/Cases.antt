@@ -11,7 +11,7 @@ use Rattle.ramp.specs.declared.Ramp.{Ramp}
 use Rattle.ramp.specs.Ramp.{rampAt, toward}
 use Rattle.ramp.specs.Cases.{rising}
 use Rattle.automation.specs.Automation.{blockOf, sweepAt, swept}
-use Rattle.automation.specs.Cases.{sixtyFourths, twoThenThree, threeThenTwo, allOnOne, samples}
+use Rattle.automation.specs.Cases.{sixtyFourths, twoThenThree, threeThenTwo, allOnOne, positions}
 use Rattle.sidechain.specs.Sidechain.{sidechainGain}
 use Rattle.delay.specs.Delay.{atOf, tapOf}
 use Rattle.delay.specs.Cases.{line}
@@ -47,11 +47,11 @@ pub record Cases (r : CeilingRate) : Type 0 where
       × (closing 63 ≡ number 0x3fe5_0000_0000_0000)
       × (closing 64 ≡ number 0x3fc4_0000_0000_0000)
       × (closing 74 ≡ nought)
-  -- 02's E8: "tied points now count as one, bearing the lowest value", at 9, 10, 31, 32, 63, 64, 73 and 74, of points of which two lie on 10 and three on 74, three and two, and all on 10
+  -- 02's E8: "tied points now count as one, bearing the lowest value". On 10 the values 0.5, 0.75 and on 74 the values 1, 0, 0.5; on 10 the values 1, 0.25, 0.5 and on 74 the values 0.75, 1; on 10 alone 0.75, 0.25, 0.5: at 9, 10, 31, 32, 63, 64, 73, 74
   pub ties :
-      (map twoThenThree samples ≡ one ∷ half ∷ half ∷ sixtyFourths 21 ∷ sixtyFourths 21 ∷ sixtyFourths 5 ∷ sixtyFourths 5 ∷ nought ∷ [])
-      × (map threeThenTwo samples ≡ one ∷ sixtyFourths 16 ∷ sixtyFourths 16 ∷ sixtyFourths 27 ∷ sixtyFourths 27 ∷ sixtyFourths 43 ∷ sixtyFourths 43 ∷ sixtyFourths 48 ∷ [])
-      × (map allOnOne samples ≡ one ∷ sixtyFourths 16 ∷ sixtyFourths 16 ∷ sixtyFourths 16 ∷ sixtyFourths 16 ∷ sixtyFourths 16 ∷ sixtyFourths 16 ∷ sixtyFourths 16 ∷ [])
+      (map twoThenThree positions ≡ one ∷ half ∷ half ∷ sixtyFourths 21 ∷ sixtyFourths 21 ∷ sixtyFourths 5 ∷ sixtyFourths 5 ∷ nought ∷ [])
+      × (map threeThenTwo positions ≡ one ∷ sixtyFourths 16 ∷ sixtyFourths 16 ∷ sixtyFourths 27 ∷ sixtyFourths 27 ∷ sixtyFourths 43 ∷ sixtyFourths 43 ∷ sixtyFourths 48 ∷ [])
+      × (map allOnOne positions ≡ one ∷ sixtyFourths 16 ∷ sixtyFourths 16 ∷ sixtyFourths 16 ∷ sixtyFourths 16 ∷ sixtyFourths 16 ∷ sixtyFourths 16 ∷ sixtyFourths 16 ∷ [])
   -- "Own 8000: value 1 gives 8000, 0 gives 800; own 700, value 0: 700."
   pub g : (swept (whole 8000) one ≡ whole 8000) × (swept (whole 8000) nought ≡ whole 800) × (swept (whole 700) nought ≡ whole 700)
   -- "Sidechain, attack 4, release 4, floor 0.5: since 0, 2, 4, 6, 8 gives 1, 0.75, 0.5, 0.75, 1."

@@ -18,7 +18,7 @@ impl Met {
         }
     }
 
-    /// Reports each of the things that matter that none of so many has met.
+    /// Reports what matters and was never met.
     pub fn missed(&self, matters: &[&str], many: &str, report: &mut Report) {
         for what in matters.iter().filter(|what| !self.0.contains(*what)) {
             report.differs(0, format!("none of {many}, since none met: {what}"));

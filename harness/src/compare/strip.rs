@@ -198,9 +198,10 @@ impl List for Case {
         }
         let mut sounded = oracle.answers.iter().skip_while(|&&answer| answer != REST);
         met.note("rest after a sound", sounded.any(|&answer| answer == REST + 1));
-        let [neared, reached] = self.setup.ties(self.samples());
-        met.note("a tie neared", oracle.answers[0] == 0 && neared);
-        met.note("a tie reached", oracle.answers[0] == 0 && reached);
+        let accepted = self.calls.iter().zip(&oracle.answers[1..]).filter(|(_, answer)| **answer == 0);
+        let [neared, reached] = self.setup.ties(accepted.map(|(call, _)| call.samples().len() as u64).sum());
+        met.note("a tie neared", neared);
+        met.note("a tie reached", reached);
         lists::first("answer", &ours.answers, &oracle.answers)
             .or_else(|| lists::first("gain count", &ours.gains, &oracle.gains))
             .or_else(|| lists::first("side", &ours.frames, &oracle.frames))

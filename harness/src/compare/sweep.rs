@@ -15,8 +15,8 @@ fn openness(rng: &mut Rng) -> f64 {
     }
 }
 
-/// Corners that the Rust would leave otherwise of the list as given: by a tie that n has not reached, and by one that it has.
-const MATTERS: [&str; 2] = ["a tie ahead", "a tie reached"];
+/// Where the Rust, given the list as it stands, would leave another corner: before a tie, and from it on.
+const MATTERS: [&str; 2] = ["a tie neared", "a tie reached"];
 
 pub fn run(rng: &mut Rng, budget: Budget) -> Report {
     let mut report = Report::default();
@@ -37,9 +37,10 @@ pub fn run(rng: &mut Rng, budget: Budget) -> Report {
             let ours = part::sweep(&points, &values, own, n);
             let [as_given, corner] = [&given, &sweep].map(|sweep| swept(own, sweep.at(n as usize)));
             report.compare(points.len() as u64, input, ours, corner);
-            let [all, apart] = [points.partition_point(|&at| at <= n), lowest.partition_point(|&(at, _)| at as u64 <= n)];
-            let reached = all > 0 && values[all - 1] != lowest[apart - 1].1;
-            met.note(if reached { "a tie reached" } else { "a tie ahead" }, as_given != corner);
+            let last_given = points.partition_point(|&at| at <= n).checked_sub(1).map(|i| values[i]);
+            let last_merged = lowest.partition_point(|&(at, _)| at as u64 <= n).checked_sub(1).map(|i| lowest[i].1);
+            let reached = last_given != last_merged;
+            met.note(if reached { "a tie reached" } else { "a tie neared" }, as_given != corner);
         }
         let [night, day] = corners;
         let x = openness(rng);

@@ -2,7 +2,7 @@
 use mathlib.Core.Path.{sym, _∙_}
 use Prim.Native.Nat.{_-_}
 use native.Mathlib.Omega.{arith}
-use Rattle.automation.proofs.Points.{reached-before, reached-next, run-within}
+use Rattle.automation.proofs.Points.{reached-before, reached-next, tie-within}
 use Rattle.automation.proofs.Relates.{sweep-before, sweep-after, sweep-between}
 use borrow.Author.Needs.{needs}
 use Rattle.automation.proofs.sweep_at.Statement.{statement}
@@ -21,13 +21,13 @@ returns-2 c = let d = c .before in
     let i = s .pre .1 .is in
     rw (d .lowest-to .ensures, i) (sym (sweep-after (s .args .positions .now) (s .args .values .now) (s .args .n) (omega (arith, i, d .before .if1 .left)) (sym i ∙ c .if2 .taken)))
 
-run-end-requires : tie.Need-run-end-requires
-run-end-requires c κs = search needs
+tie-end-requires : tie.Need-tie-end-requires
+tie-end-requires c κs = search needs
 
 lowest-to-requires-2 : tie.Need-lowest-to-requires-2
 lowest-to-requires-2 c κs = let s = c .before .before .before .before .before .before in
-    let within = run-within (s .args .positions .now) (s .args .i) (search needs) in
-    (s .pre .0, (omega (arith, c .run-end .ensures, within .0), omega (arith, c .run-end .ensures, within .1)))
+    let within = tie-within (s .args .positions .now) (s .args .i) (search needs) in
+    (s .pre .0, (omega (arith, c .tie-end .ensures, within .0), omega (arith, c .tie-end .ensures, within .1)))
 
 sub-segment : tie.Need-sub-segment
 sub-segment c = search needs
@@ -62,7 +62,7 @@ returns-3 c = let u = c .before .before .before in
     let s = f .before .before .before in
     let i = s .pre .1 .is in
     let between = sweep-between (s .args .positions .now) (s .args .values .now) (s .args .n) (omega (arith, i, f .if1 .left)) (omega (arith, i, s .pre .1 .most, d .if2 .left)) in
-    rw (c .segment .ensures, u .lowest-to2 .ensures, r .run-end .ensures, d .before .lowest-to .ensures, i) (sym between)
+    rw (c .segment .ensures, u .lowest-to2 .ensures, r .tie-end .ensures, d .before .lowest-to .ensures, i) (sym between)
 
 pub sweep-at-spec : {M : Type 1} → statement M
 sweep-at-spec =
@@ -71,7 +71,7 @@ sweep-at-spec =
     returns
     lowest-to-requires
     returns-2
-    run-end-requires
+    tie-end-requires
     lowest-to-requires-2
     sub-segment
     mul-segment
