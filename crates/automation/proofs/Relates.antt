@@ -22,7 +22,7 @@ unfolding pointsOf
 positions-given [] xs = refl
 positions-given (p ∷ ps) xs = ap (λ (t : List ℕ). p ∷ t) (positions-given ps (drop 1 xs))
 
-pub points-given : (ps : List ℕ) (xs : List Float) → length (pointsOf ps xs) ≡ length ps
+points-given : (ps : List ℕ) (xs : List Float) → length (pointsOf ps xs) ≡ length ps
 unfolding pointsOf
 points-given [] xs = refl
 points-given (p ∷ ps) xs = ap suc (points-given ps (drop 1 xs))
@@ -61,7 +61,7 @@ abbrev lowest : List Point → Float
 lowest ps = getD (valuesOf (merged ps)) (length (merged ps) - 1) nan
 
 -- it is the next point's own, where that is merged to one
-pub lowest-tie : (ps qs : List Point) (p : ℕ) (x : Float) → NotTied ps qs → merged qs ≡ point p x ∷ [] → lowest (ps ++ qs) ≡ x
+lowest-tie : (ps qs : List Point) (p : ℕ) (x : Float) → NotTied ps qs → merged qs ≡ point p x ∷ [] → lowest (ps ++ qs) ≡ x
 lowest-tie ps qs p x h e =
     let m = merged ps in
     let l : length (m ++ point p x ∷ []) - 1 ≡ length m = omega (arith, length-append m (point p x ∷ [])) in

@@ -1,40 +1,25 @@
 -- Tied points count as one, with their lowest value; a list without ties is as it was. Assumes nothing.
 use mathlib.Core.Path.{_≡_, refl, ap, _∙_}
-use mathlib.Core.Bool.{Bool, true, false, not, cond}
-use mathlib.Core.Logic.{_⊎_, inl, inr}
+use mathlib.Core.Bool.{not}
+use mathlib.Core.Logic.{inl, inr}
 use mathlib.Core.List.{List, [], _∷_, List·Memᴰ, List·Memᴰ·head, List·Memᴰ·tail, List·Memᴰ·not-nil, List·Memᴰ·cases-cons, Memᴰ·cast}
 use Prim.Native.Nat.{ℕ, _-_, _≤_, _<_}
 use native.Mathlib.Decide.{ℕ-discrete}
 use native.Mathlib.Omega.{arith}
 use lib.ListN.{length, getD, List·getD-map}
 use lib.Dec.{T, leb, leb→le}
-use lib.Ieee.{Float, nan, lt, le, isNan}
+use lib.Ieee.{Float, nan, le, isNan}
 use lib.Ieee.Fits.{and-l, and-r}
 use borrow.Author.Tests.{eq-eqb, ne-eqb}
 use Rattle.casts.specs.Arithmetic.{nought, one}
-use Rattle.casts.specs.Order.{le-refl-any, le-trans-any, not-lt→le, le-clean-right}
-use Rattle.casts.specs.Least.{minF, min-left}
+use Rattle.casts.specs.Order.{le-refl-any, le-trans-any, le-clean-right}
+use Rattle.casts.specs.Least.{minF, min-one, min-left, min-right}
 use Rattle.ranges.specs.Ranges.{lastPosition, inRange, allInRange, risingFrom}
 use Rattle.automation.specs.Automation.{Point, pointsOf, positionsOf, valuesOf, mergedWith, merged, reached, sweepOf, sweepAt}
 use Rattle.automation.specs.Promise.{EachLater, Lowest, MergedTo, TiesCountAsOne, Untied, UntiedAsBefore}
 use Rattle.automation.proofs.Points.{reached-most}
 use Rattle.automation.proofs.Merged.{point, noPoint, with-tied, with-apart, front}
 use Rattle.automation.proofs.Relates.{positions-given, point-given}
-
--- ---- the lesser of two values is one of them, and is not above the second
-min-one : (a b : Float) → (minF a b ≡ a) ⊎ (minF a b ≡ b)
-min-one a b = go (lt b a)
-  where
-    go : (t : Bool) → (cond t b a ≡ a) ⊎ (cond t b a ≡ b)
-    go true = inr refl
-    go false = inl refl
-
-min-right : (a b : Float) → T (not (isNan a)) → T (not (isNan b)) → T (le (minF a b) b)
-min-right a b p q = go (lt b a) refl
-  where
-    go : (t : Bool) → lt b a ≡ t → T (le (cond t b a) b)
-    go true e = le-refl-any b q
-    go false e = not-lt→le a b p q e
 
 -- ---- a point before merged points
 abbrev Clean : List Point → Type 0
