@@ -1,5 +1,7 @@
 // The plate's lines (plate.rs, Allpass): a lattice at its own length and stretched, and a plain delay, each on its ring in
 // a part of the sample store. It may use casts, stage, stream, delay and rate.
+#![tactic(auto)]
+
 ghost use Rattle.std.specs.Prelude.{◌≡◌, ◌<◌};
 ghost use Rattle.delay.specs.Delay.{Reach};
 ghost use Rattle.ranges.specs.Ranges.{last_position};

@@ -1,5 +1,7 @@
 // What the lane plays under: daylight, the sweep and the tone, and how long a tuning lasts.
 // Uses casts, ranges, elementary and ramp.
+#![tactic(auto)]
+
 ghost use Rattle.std.specs.Prelude.{◌≡◌, ◌<◌, ◌≤◌, min, max, length};
 ghost use Rattle.automation.specs.Automation.{block_of, daylight_of, reached, segment, sweep_at, swept, corner_between, drive_between, tone_at, tuning_at};
 ghost use Rattle.automation.specs.Kept.{tie_end, lowest_to};
@@ -14,7 +16,7 @@ const COEFF_BLOCK: u64 = 32;
 const FILTERED_HZ: f32 = 800.0;
 
 // A lane's own tone: set once, or graded with the daylight between a night's and a day's.
-#[derive(Drop)]
+#[derive(Clone, Copy)]
 pub enum Tone {
     Fixed {
         corner: f32,
@@ -29,14 +31,14 @@ pub enum Tone {
 }
 
 // What the lane is tuned to: its low-pass corner and its drive.
-#[derive(Drop)]
+#[derive(Clone, Copy)]
 pub struct Tuning {
     pub corner: f32,
     pub drive: f64,
 }
 
 // A tuning, and for how many samples it holds.
-#[derive(Drop)]
+#[derive(Clone, Copy)]
 pub struct Piece {
     pub tuning: Tuning,
     pub len: u64,

@@ -1,5 +1,7 @@
 // Second-order sections by value, the cookbook's low-pass at run time, and the order-4 low-pass of two sections.
 // Uses casts, elementary and stream.
+#![tactic(auto)]
+
 ghost use Rattle.std.specs.Prelude.{◌≡◌};
 ghost use Rattle.biquad.specs.Section.{section_at, section_step, retuned, section_at_rest, lowpass_step, lowpass_at_rest};
 ghost use Rattle.biquad.specs.Cookbook.{normalized, angle_of, lpf, lowpass_retuned};
@@ -10,7 +12,7 @@ const Q_FIRST: f64 = 1.306562964876377;
 const Q_SECOND: f64 = 0.5411961001461969;
 
 // A section's five coefficients, a0 being 1.
-#[derive(Drop)]
+#[derive(Clone, Copy)]
 pub struct Coefficients {
     pub b0: f64,
     pub b1: f64,
@@ -20,7 +22,7 @@ pub struct Coefficients {
 }
 
 // Direct Form 1: five coefficients, the last two inputs and the last two outputs.
-#[derive(Drop)]
+#[derive(Clone, Copy)]
 pub struct Section {
     pub b0: f64,
     pub b1: f64,
@@ -124,7 +126,7 @@ fn angle(hz: f32, rate: u32) -> f64
 }
 
 // An order-4 Butterworth low-pass, whose corner may move.
-#[derive(Drop)]
+#[derive(Clone, Copy)]
 pub struct Lowpass {
     pub first: Section,
     pub second: Section,

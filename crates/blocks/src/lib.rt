@@ -1,5 +1,7 @@
 // A run: blocks of samples through the lane and the bus to frames, each on its own parts of the stores.
 // Uses the stages, rate for the lengths of their parts, and strip for its types and definitions.
+#![tactic(auto)]
+
 ghost use Rattle.std.specs.Prelude.{◌≡◌, map, ◌+◌, ◌-◌, ◌*◌, ◌<◌, ◌≤◌, min, length};
 ghost use Rattle.casts.specs.Arithmetic.{◌⊗◌};
 ghost use Rattle.ranges.specs.Ranges.{last_position};

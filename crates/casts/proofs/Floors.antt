@@ -77,6 +77,8 @@ ceil_same a b c d B D h = go (eq-or-lt_of_le (div-mul-le_self a b))
 
 floored_at : (v : Float) (s : Bool) (a c : ℕ) → 0 < c → HasValue v s a c → floored v ≡ round binary64 s (cond s ((a + (c - 1)) / c) (a / c)) 1
 unfolding floored
+floored_at lib.Ieee.nan s a c C h = elim h [ ]
+floored_at (inf _) s a c C h = elim h [ ]
 floored_at (fin true m e) false a c C h = absurd (true≢false h.0)
 floored_at (fin false m e) true a c C h = absurd (true≢false (sym h.0))
 floored_at (fin false m e) false a c C h = ap (λ (n : ℕ). round binary64 false n 1) (div_same (m * up e) (down e) a c (down_pos e) C h.1)
@@ -268,6 +270,8 @@ unfolding floored
 inf_stays s = refl
 
 whole_value : (y : Float) (s : Bool) (c : ℕ) → T (fits binary64 y) → HasValue y s c 1 → y ≡ floored y
+whole_value lib.Ieee.nan s c f h = elim h [ ]
+whole_value (inf _) s c f h = elim h [ ]
 whole_value (fin t m e) s c f h = whole_stays t m e c f (sym (sym (mul-one (m * up e)) ∙ h.1))
 
 pub floors_far : (s : Bool) (m : ℕ) → 1075 ≤ m / 4503599627370496 → m ≤ 9218868437227405312 → Floors s m m

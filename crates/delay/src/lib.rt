@@ -1,10 +1,12 @@
 // A delay line (delay.rs): its ring is a part of its stage's part of the sample store. `push`, `at` and `tap` work on
 // the ring alone; a DelayLine lends them its own places. It may use casts.
+#![tactic(auto)]
+
 ghost use Rattle.std.specs.Prelude.{◌≡◌, ◌+◌, ◌%◌, ◌<◌, ◌≤◌, length};
 ghost use Rattle.delay.specs.Delay.{pushed, tapped, not_below, not_above, tap_of, Reach, all_zero, line_push, line_at, line_tap};
 
 // Where its ring starts in its stage's part, and how many places it has.
-#[derive(Drop)]
+#[derive(Clone, Copy)]
 pub struct DelayLine {
     pub at: usize,
     pub ring: usize,

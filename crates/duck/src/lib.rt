@@ -1,5 +1,7 @@
 // The duck: a lane's dip under the kicks that the drums sounded (lanes.rs `Duck`). Its part of the count store keeps 1,024
 // positions and then 1,024 marks. Uses casts, ranges, stage and sidechain, and no rate by its number.
+#![tactic(auto)]
+
 ghost use Rattle.std.specs.Prelude.{◌≡◌, ◌+◌, ◌-◌, ◌<◌, ◌≤◌, leb, length, drop, true, ◌&&◌};
 ghost use Rattle.casts.specs.Arithmetic.{one};
 ghost use Rattle.stage.specs.Stage.{ran, outs};
@@ -10,27 +12,27 @@ ghost use Rattle.duck.specs.Cursors.{duck_on, laid, flag, is_mark, kicks_in, mar
 use sidechain::{DuckRate, Gains};
 
 // The kicks in use, the first that the lane has not reached, and the first whose duck still releases.
-#[derive(Drop)]
+#[derive(Clone, Copy)]
 pub struct Duck {
     pub count: usize,
     pub reached: usize,
     pub ducking: usize,
 }
 
-#[derive(Drop)]
+#[derive(Clone, Copy)]
 pub struct Ducked {
     pub duck: Duck,
     pub gain: f64,
 }
 
-#[derive(Drop)]
+#[derive(Clone, Copy)]
 struct DuckedTwo {
     duck: Duck,
     gains: Gains,
 }
 
 // The products of two samples so far, and the next kick.
-#[derive(Drop)]
+#[derive(Clone, Copy)]
 struct PastAttacks {
     gains: Gains,
     next: usize,

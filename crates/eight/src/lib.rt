@@ -1,12 +1,14 @@
 // Elementary functions of eight numbers at a time, each equal to the plain function mapped: the eight chains of divisions
 // run side by side, two to an instruction. Uses casts and elementary.
+#![tactic(auto)]
+
 ghost use Rattle.std.specs.Prelude.{◌≡◌, map, ◌+◌, ◌<◌, ◌≤◌, get_or, set};
 ghost use Rattle.casts.specs.Arithmetic.{◌⊕◌, ◌⊖◌, ◌⊗◌, ◌⊘◌, nought, one};
 ghost use Rattle.elementary.specs.Elementary.{TANH, SIN, COS, turn};
 ghost use Rattle.elementary.specs.Convergent.{convergent};
 ghost use Rattle.eight.specs.Each.{all, each, each2, listed, held_at, total_of, two_same, all_same, eight_at, put_eight, saturated_over, group_end};
 
-#[derive(Drop)]
+#[derive(Clone, Copy)]
 pub struct Eight {
     pub a: f64,
     pub b: f64,

@@ -1,6 +1,8 @@
 // Thin C functions over the crates, for the Rust harness beside the part and for the replays; nothing else uses them. sinh and the f32
 // functions stand here whole, since no crate of the part calls them.
 // Rust promises nothing of what it passes: each tests lengths and bounds first, and does nothing where they do not hold.
+#![tactic(auto)]
+
 ghost use Rattle.std.specs.Prelude.{◌≡◌};
 ghost use Rattle.elementary.specs.Elementary.{SINH, SIN32, POW32};
 

@@ -1,6 +1,8 @@
 // C functions for the Rust harness beside the part: a fresh tape lane, plate or ceiling over a whole signal, in calls of the
 // lengths that are given, and the lane's tilt. Only the harness and the replay use them. Rust promises nothing of what it passes: lengths and
 // bounds are tested first, and nothing is done where they do not hold.
+#![tactic(auto)]
+
 ghost use Rattle.std.specs.Prelude.{◌+◌, ◌<◌, ◌≤◌, ◌*◌, ◌/◌, ◌≡◌, true, length, T};
 ghost use Rattle.ranges.specs.Ranges.{most_kicks, last_position};
 ghost use Rattle.duck.specs.Cursors.{duck_counts};
@@ -76,7 +78,7 @@ fn in_time(n: u64, len: usize) -> bool
 
 // ---- the tape lane
 
-#[derive(Drop)]
+#[derive(Clone, Copy)]
 struct Lane {
     daylight: Ramp,
     rain: Ramp,
@@ -199,7 +201,7 @@ fn latched(lane: Lane, n: u64, controls: u64, grading: u64, darkening: u64) -> L
 }
 
 // A run of so many samples with drums or not, or a latch of the controls' patterns over two lengths.
-#[derive(Drop)]
+#[derive(Clone, Copy)]
 struct Call {
     latch: bool,
     first: u64,

@@ -1,6 +1,8 @@
 // The four calls for C (include/goqhari.h): `rt staticlib goqhari` builds the library from them. The strip stands packed in two lists that the caller lends.
 // No call has a `requires`, and each contract is the Rattle call's through the packing (specs/Library.antt).
 // Uses part for the calls, packing for the strip, refusals for 1, setup for the setup.
+#![tactic(auto)]
+
 ghost use Rattle.std.specs.Prelude.{◌≡◌, ◌≤◌, length};
 ghost use Rattle.rate.specs.Rate.{rate_of};
 ghost use Rattle.strip.specs.Kept.{lists_of};

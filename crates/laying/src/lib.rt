@@ -1,4 +1,6 @@
 // A list laid at the front of what is lent, and the rest as it was. Uses stage for one definition.
+#![tactic(auto)]
+
 ghost use Rattle.std.specs.Prelude.{◌≡◌, ◌≤◌, length};
 ghost use Rattle.stage.specs.Stage.{over};
 

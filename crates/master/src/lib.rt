@@ -1,5 +1,7 @@
 // The ceiling: a limiter with a look-ahead, and a clamp (document 01, "Ceiling"), as a stage on its own parts of the two stores.
 // Uses casts (widen, narrow, whole part), ranges, stream (Frame), delay (a line at rest), rate (CeilingRate), and stage in specs and proofs.
+#![tactic(auto)]
+
 ghost use Rattle.std.specs.Prelude.{◌≡◌, ◌+◌, ◌-◌, ◌*◌, ◌/◌, ◌%◌, ◌<◌, ◌≤◌, T, length, get_or, ◌==◌, nat_le, slice_index, slice_index_or, slice_set};
 ghost use Rattle.std.specs.Float.{nan};
 ghost use Rattle.std.specs.Float.Ieee.{le};
@@ -19,7 +21,7 @@ use rate::CeilingRate;
 use stream::Frame;
 
 // What a frame in gives out: the frame that the look-ahead kept, limited, and the gain count.
-#[derive(Drop)]
+#[derive(Clone, Copy)]
 pub struct Heard {
     pub left: f32,
     pub right: f32,
@@ -27,7 +29,7 @@ pub struct Heard {
 }
 
 // The released gain, the gain count, and the queue of needs: where its oldest lies, and how many it has.
-#[derive(Drop)]
+#[derive(Clone, Copy)]
 pub struct Ceiling {
     pub released: f64,
     pub count: u64,
@@ -35,7 +37,7 @@ pub struct Ceiling {
     pub len: usize,
 }
 
-#[derive(Drop)]
+#[derive(Clone, Copy)]
 pub struct Turn {
     pub ceiling: Ceiling,
     pub heard: Heard,
@@ -113,7 +115,7 @@ fn head_goes(window: usize, n: u64, number: u64, len: usize) -> bool
     w < frames
 }
 
-#[derive(Drop)]
+#[derive(Clone, Copy)]
 struct Queue {
     head: usize,
     len: usize,

@@ -1,17 +1,19 @@
 // The one-pole low-pass, and the tilt that it makes.
 // Uses casts, elementary and stream.
+#![tactic(auto)]
+
 ghost use Rattle.std.specs.Prelude.{◌≡◌};
 ghost use Rattle.onepole.specs.OnePole.{one_pole_at, one_pole_step, tilt_step, one_pole_at_rest, lift_of};
 
 // y = (1 − a)·x + a·y₋₁, a being the pole and y the last output.
-#[derive(Drop)]
+#[derive(Clone, Copy)]
 pub struct OnePole {
     pub pole: f64,
     pub y: f64,
 }
 
 // The one-pole after a sample, and the tilt's output.
-#[derive(Drop)]
+#[derive(Clone, Copy)]
 pub struct Tilted {
     pub lp: OnePole,
     pub out: f64,

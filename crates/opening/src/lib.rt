@@ -1,5 +1,7 @@
 // What open leaves: a fresh lane and a fresh bus, each on its own parts of the two stores, and the strip of both.
 // Uses the stages, rate for the places of their parts, laying for the lists, and strip for its types.
+#![tactic(auto)]
+
 ghost use Rattle.std.specs.Prelude.{◌≡◌, ◌++◌, ◌≤◌, length, take, drop, replicate};
 ghost use Rattle.casts.specs.Arithmetic.{nought};
 ghost use Rattle.ranges.specs.Ranges.{most_points, most_kicks};

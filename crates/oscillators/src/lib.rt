@@ -1,5 +1,7 @@
 // The lane's oscillators (lanes.rs `phase` and `Tape::process`, recipe.rs `PadTone::swell`): the pad's swell, and how far behind its
 // newest sample the warp is read, of one sample and of a group of eight. Uses casts, elementary, eight and rate.
+#![tactic(auto)]
+
 ghost use Rattle.std.specs.Prelude.{◌≡◌, ◌+◌, ◌<◌, ◌≤◌};
 ghost use Rattle.casts.specs.Arithmetic.{◌⊗◌, whole};
 ghost use Rattle.eight.specs.Each.{each, each2, eight_of, Laid};
@@ -10,7 +12,7 @@ use eight::Eight;
 use rate::TapeRate;
 
 // An optional pad: its swell's rate in Hz and its depth.
-#[derive(Drop)]
+#[derive(Clone, Copy)]
 pub enum Pad {
     Without,
     Swell { hz: f32, depth: f32 },

@@ -1,6 +1,8 @@
 // A strip as numbers and words: what a caller of the C library lends a strip's memory as. specs/Packing.antt has each part's places,
 // counted from its own start; what was packed is read back (proofs/Inverse.antt).
 // Uses casts, the crates of the stages and strip for their types, setup for one definition, and laying to lay a list.
+#![tactic(auto)]
+
 ghost use Rattle.std.specs.Prelude.{◌≡◌, ◌&&◌, [], ◌∷◌, ◌≤◌, length};
 ghost use Rattle.stage.specs.Stage.{over};
 ghost use Rattle.setup.specs.Setup.{number_at};
@@ -79,7 +81,7 @@ const LANE_WORDS_AT: usize = OWN_WORDS + BUS_WORDS;
 const WORDS: usize = LANE_WORDS_AT + LANE_WORDS;
 
 // A strip; no strip, where a tag, a bool or an f32 is none; or too few numbers or words.
-#[derive(Drop)]
+#[derive(Clone, Copy)]
 pub enum Unpacked {
     Strip(Strip),
     Not,

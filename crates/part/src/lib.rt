@@ -1,4 +1,6 @@
 // The four calls: open, run, latch, rest. Uses refusals for the checks, opening and blocks for the work, and the stages; strip has the types and the definitions that the contracts cite.
+#![tactic(auto)]
+
 ghost use Rattle.std.specs.Prelude.{◌≡◌, length};
 ghost use Rattle.rate.specs.Rate.{rate_of, RateUsable, Sized};
 ghost use Rattle.rate.specs.Stores.{bus_samples, lane_samples};

@@ -1,6 +1,8 @@
 // The plate (plate.rs): Dattorro's plate-class reverberator, on its own part of the sample store. A line's ring lies
 // in that part; the dampings and the high-passes are kept by value. It may use casts, stage, elementary, eight,
 // stream, onepole, biquad, delay, rate and allpass.
+#![tactic(auto)]
+
 ghost use Rattle.std.specs.Prelude.{◌≡◌, ◌+◌, ◌<◌, ◌≤◌, map, length};
 ghost use Rattle.stream.specs.declared.Frame.{Frame};
 ghost use Rattle.casts.specs.Arithmetic.{◌⊗◌};
@@ -31,27 +33,27 @@ const TAP_GAIN: f64 = 0.6;
 const LFO_HZ: f64 = 1.0;
 
 // The halves' dampings.
-#[derive(Drop)]
+#[derive(Clone, Copy)]
 pub struct Tank {
     pub left: OnePole,
     pub right: OnePole,
 }
 
 // The dampings, and each side's high-pass.
-#[derive(Drop)]
+#[derive(Clone, Copy)]
 pub struct Plate {
     pub tank: Tank,
     pub left: Section,
     pub right: Section,
 }
 
-#[derive(Drop)]
+#[derive(Clone, Copy)]
 pub struct TankGave {
     pub tank: Tank,
     pub frame: Frame,
 }
 
-#[derive(Drop)]
+#[derive(Clone, Copy)]
 pub struct PlateGave {
     pub plate: Plate,
     pub frame: Frame,
@@ -153,7 +155,7 @@ fn stretch(rate: PlateRate, n: u64) -> Frame
 }
 
 // The stretches of eight frames.
-#[derive(Drop)]
+#[derive(Clone, Copy)]
 struct Stretches {
     left: [f64; 8],
     right: [f64; 8],

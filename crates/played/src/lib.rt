@@ -2,3 +2,4 @@
 // what the Rust answered (proofs/Agrees.antt). antt's step limit ends a declaration after some 16 samples of a lane, so a long list is
 // computed in stretches (proofs/Stretches.antt). No code. harness/vectors makes the lists and the stretches.
 // Uses strip and what it stands on, for their definitions.
+#![tactic(auto)]

@@ -1,16 +1,18 @@
 // A control's ramp, closed-form in the position, so that nothing moves it but a latch.
 // Uses casts and elementary.
+#![tactic(auto)]
+
 ghost use Rattle.std.specs.Prelude.{◌≡◌, nat_le};
 ghost use Rattle.ramp.specs.Ramp.{ramp_end, held, shaped, ramp_at, toward};
 
 // How a ramp moves between its ends: in its value, or in decibels.
-#[derive(Drop)]
+#[derive(Clone, Copy)]
 pub enum Shape {
     Linear,
     Db,
 }
 
-#[derive(Drop)]
+#[derive(Clone, Copy)]
 pub struct Ramp {
     pub from: f64,
     pub to: f64,

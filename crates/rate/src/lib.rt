@@ -1,6 +1,8 @@
 // The rate's own type: what depends on the rate, for each stage, made by a constructor out of constants.
 // places.rt has how long each part of the stores is.
 // Uses ranges, biquad, delay, attack, sidechain and duck for their types and numbers; the definitions in specs/ use casts, elementary, stream and onepole too.
+#![tactic(auto)]
+
 ghost use Rattle.std.specs.Prelude.{◌≡◌};
 ghost use Rattle.casts.specs.Arithmetic.{whole};
 ghost use Rattle.biquad.specs.Cookbook.{lowpass_at, bandpass_at, butter_q};
@@ -16,7 +18,7 @@ use sidechain::DuckRate;
 pub mod places;
 
 // Wow or flutter: radians a sample, and the read head's excursion in samples.
-#[derive(Drop)]
+#[derive(Clone, Copy)]
 pub struct Warp {
     pub w: f64,
     pub a: f64,
@@ -24,7 +26,7 @@ pub struct Warp {
 
 // The lane's: the rate in Hz, the two warps, their reach, the greatest delay and the places of the warp's ring, the coefficients of
 // the head bump and of the rolloff's two sections, the tilt's pole, and the duck's numbers.
-#[derive(Drop)]
+#[derive(Clone, Copy)]
 pub struct TapeRate {
     pub hz: u32,
     pub wow: Warp,
@@ -140,14 +142,14 @@ impl TapeRate {
 }
 
 // A line of the plate, and the delay at which it is read.
-#[derive(Drop)]
+#[derive(Clone, Copy)]
 pub struct LineRate {
     pub line: DelayLine,
     pub delay: u64,
 }
 
 // The predelay, the four input lattices, and how many places they have together.
-#[derive(Drop)]
+#[derive(Clone, Copy)]
 pub struct InputRate {
     pub predelay: LineRate,
     pub diffuser1: LineRate,
@@ -158,7 +160,7 @@ pub struct InputRate {
 }
 
 // A side's seven taps, in the order of Dattorro's Table 2: the first four are the other half's.
-#[derive(Drop)]
+#[derive(Clone, Copy)]
 pub struct Taps {
     pub first: u64,
     pub second: u64,
@@ -171,7 +173,7 @@ pub struct Taps {
 
 // One half of the tank: its four lines, how far its first lattice reaches, how many places they have together, and the
 // taps of its side's output.
-#[derive(Drop)]
+#[derive(Clone, Copy)]
 pub struct HalfRate {
     pub diffuser1: LineRate,
     pub reach: f64,
@@ -183,7 +185,7 @@ pub struct HalfRate {
 }
 
 // The plate's numbers. The decay is taken twice a half; diffusion is Dattorro's decay diffusion 2.
-#[derive(Drop)]
+#[derive(Clone, Copy)]
 pub struct PlateRate {
     pub sr: u32,
     pub input: InputRate,
@@ -392,7 +394,7 @@ impl PlateRate {
 }
 
 // The ceiling's: how many frames late it plays, how many frames its window of needs has, the limit, and the released gain's rise a frame.
-#[derive(Drop)]
+#[derive(Clone, Copy)]
 pub struct CeilingRate {
     pub ahead: usize,
     pub window: usize,
@@ -426,7 +428,7 @@ impl CeilingRate {
 }
 
 // A strip's: how long the two lent stores are at least, and the stages' numbers.
-#[derive(Drop)]
+#[derive(Clone, Copy)]
 pub struct Rate {
     pub samples: usize,
     pub counts: usize,

@@ -1,5 +1,7 @@
 // Document 01, 'When the part declines': a function for each ground, true where the part does not decline, and the numbers in their order.
 // Uses casts, ranges, duck, master and rate, and strip for the types and definitions.
+#![tactic(auto)]
+
 ghost use Rattle.std.specs.Prelude.{◌≡◌, ◌&&◌, [], leb, length, take, drop};
 ghost use Rattle.casts.specs.Arithmetic.{whole, nought};
 ghost use Rattle.ranges.specs.Ranges.{most_points, in_range};

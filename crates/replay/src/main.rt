@@ -1,6 +1,8 @@
 // Replays a kept list of the oracle's answers, on standard input, and prints how many of the part's are alike:
 // a line for each function (name, answers, answers alike) and a total, fields parted by tabs.
 // It may use casts, elementary, the exported functions, vectors and the kit's io and libc.
+#![tactic(auto)]
+
 use vectors::Tally;
 
 // The part's answer for a function on f64; the kinds count the names in `main`.
@@ -39,7 +41,7 @@ fn seen(names: &[u8], t: Tally, line: &[u8; 58]) -> Tally {
     vectors::counted(t, kind, answer_bits(kind, n[0], n[1]) == n[2])
 }
 
-#[derive(Drop)]
+#[derive(Clone, Copy)]
 struct Turn {
     more: bool,
     tally: Tally,

@@ -2,6 +2,8 @@
 // a line for each thing (name, answers, answers alike) and a total, fields parted by tabs. The list has answers of
 // single functions, then signals through the tape, the plate, the ceiling and the duck.
 // It may use the exported functions, casts, vectors and the kit's io and libc.
+#![tactic(auto)]
+
 ghost use Rattle.std.specs.Prelude.{◌≤◌, length};
 
 use vectors::Tally;
@@ -9,7 +11,7 @@ use vectors::Tally;
 // ---- a line
 
 // A line is a name of 8 bytes and 12 numbers.
-#[derive(Drop)]
+#[derive(Clone, Copy)]
 struct Line {
     more: bool,
     text: [u8; 212],

@@ -1,5 +1,7 @@
 // A setup, and the lane's part of it, out of the numbers and flags that C hands over (specs/Setup.antt). Uses automation, oscillators, tape
 // and strip for their types.
+#![tactic(auto)]
+
 ghost use Rattle.std.specs.Prelude.{◌≡◌};
 ghost use Rattle.setup.specs.Setup.{tone_of, pad_of, tape_setup_of, setup_of};
 

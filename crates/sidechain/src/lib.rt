@@ -1,11 +1,13 @@
 // A kick's gain (whole.rs `sidechain_gain`): at one sample, at two neighbours at once, and of two kicks at once. Uses casts and attack, and no
 // rate by its number.
+#![tactic(auto)]
+
 ghost use Rattle.std.specs.Prelude.{◌≡◌, ◌+◌, ◌<◌, ◌≤◌, true};
 ghost use Rattle.casts.specs.Arithmetic.{◌⊕◌, ◌⊖◌, ◌⊗◌, ◌⊘◌, one, whole};
 ghost use Rattle.sidechain.specs.Sidechain.{sidechain_gain, releases};
 
 // What of a duck depends on the rate: the attack and the release in samples, and the gain at the bottom.
-#[derive(Drop)]
+#[derive(Clone, Copy)]
 pub struct DuckRate {
     pub attack: u64,
     pub release: u64,
@@ -13,7 +15,7 @@ pub struct DuckRate {
 }
 
 // The gains at a sample and at the one after it, or of a kick and of the one after it.
-#[derive(Drop)]
+#[derive(Clone, Copy)]
 pub struct Gains {
     pub at: f64,
     pub after: f64,

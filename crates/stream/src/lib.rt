@@ -1,12 +1,14 @@
 // What every stage of the stream uses: flush, and a frame of two sides.
 // Uses casts and elementary.
+#![tactic(auto)]
+
 ghost use Rattle.std.specs.Prelude.{◌≡◌};
 ghost use Rattle.stream.specs.Stream.{flushed};
 
 // The exponent's field of 2^-64, below which a feedback state is silence.
 const FLUSH_FIELD: u64 = 959;
 
-#[derive(Drop)]
+#[derive(Clone, Copy)]
 pub struct Frame {
     pub left: f64,
     pub right: f64,

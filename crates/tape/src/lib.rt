@@ -1,6 +1,8 @@
 // The tape lane as a stage (lanes.rs `Tape`): tone, swell and gain, warp, saturation, head bump, rolloff, tilt, gain and duck.
 // It works on its own parts of the stores: the warp's ring in the sample store, the duck's part in the count store.
 // Uses casts, ranges, elementary, eight, stage, onepole, biquad, delay, ramp, rate, automation, sidechain, duck and oscillators.
+#![tactic(auto)]
+
 ghost use Rattle.std.specs.Prelude.{◌≡◌, map, ◌+◌, ◌<◌, ◌≤◌, length};
 ghost use Rattle.eight.specs.Each.{saturated_over};
 ghost use Rattle.stage.specs.Stage.{ran, outs};
@@ -21,7 +23,7 @@ use rate::TapeRate;
 use sidechain::DuckRate;
 
 // What a maker sets of a lane.
-#[derive(Drop)]
+#[derive(Clone, Copy)]
 pub struct TapeSetup {
     pub tone: Tone,
     pub pad: Pad,
@@ -33,7 +35,7 @@ pub struct TapeSetup {
 }
 
 // What follows the saturation: the head bump, the rolloff and the tilt.
-#[derive(Drop)]
+#[derive(Clone, Copy)]
 pub struct Equalizer {
     pub bump: Section,
     pub rolloff: Lowpass,
@@ -41,7 +43,7 @@ pub struct Equalizer {
 }
 
 // The filters and the duck; the drive and its TANH; and the position up to which the tone's corner and the drive hold.
-#[derive(Drop)]
+#[derive(Clone, Copy)]
 pub struct Tape {
     pub tone: Lowpass,
     pub equalizer: Equalizer,
@@ -51,13 +53,13 @@ pub struct Tape {
     pub until: u64,
 }
 
-#[derive(Drop)]
+#[derive(Clone, Copy)]
 pub struct Fronted {
     pub tone: Lowpass,
     pub y: f64,
 }
 
-#[derive(Drop)]
+#[derive(Clone, Copy)]
 pub struct Equalized {
     pub equalizer: Equalizer,
     pub y: f64,

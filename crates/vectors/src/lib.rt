@@ -2,6 +2,8 @@
 // A line begins with the name of what is answered, and its numbers are of 16 digits with a byte after each. A list of names
 // has 8 bytes for each of at most 15, and blanks after a shorter one. What lies past the end of a list reads as a blank.
 // It may use casts and the kit's io and libc.
+#![tactic(auto)]
+
 ghost use Rattle.std.specs.Prelude.{◌≡◌, ◌<◌, ◌≤◌, from_bits, to_bits};
 ghost use Rattle.std.specs.Float.{binary32, binary64};
 
@@ -9,7 +11,7 @@ ghost use Rattle.std.specs.Float.{binary32, binary64};
 pub const OTHER: usize = 15;
 
 // How many answers there were of each kind, and how many alike.
-#[derive(Drop)]
+#[derive(Clone, Copy)]
 pub struct Tally {
     pub answers: [u64; 16],
     pub alike: [u64; 16],

@@ -1,0 +1,8 @@
+use Rattle.std.proofs.Common.{◌≡◌, ℕ, ◌+◌, ◌-◌, ◌*◌, ◌^◌, ◌<◌, ◌≤◌, sym, refl, ap, ◌∙◌, subst, le_of_eq, lt_of_le_of_lt, mul_assoc, mul-le-mul_left, mul-one, arith, pow_pos, pow-add, rules}
+use Rattle.casts.proofs.shifted.Given as goal
+
+abbrev pub invariant-loop-left : goal.invariant-loop-left
+invariant-loop-left l = l.y * 2 ^ l.left ≡ l.x * 2 ^ l.digits
+
+abbrev pub decreases-loop-left : goal.decreases-loop-left
+decreases-loop-left l = l.left
