@@ -1,5 +1,4 @@
 -- `casts::bits_of_f64` meets its contract. Assumes nothing.
-use Rattle.std.proofs.Common.{rules}
 use lib.Ieee.{binary64, to_bits}
 use Rattle.casts.proofs.Split.{nan_bits_lem, no_nan}
 use Rattle.casts.proofs.bits_of_f64.Goals as goal

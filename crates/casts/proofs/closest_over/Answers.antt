@@ -1,5 +1,5 @@
 -- `casts::closest_over` meets its contract, by the three tests of proofs/Closest.antt. Assumes nothing.
-use Rattle.std.proofs.Common.{div-le_self, arith, rules}
+use Rattle.std.proofs.Common.{div-le_self, arith}
 use native.Mathlib.Nat.{mod-le}
 use Rattle.casts.proofs.Closest.{closest_down, closest_tie, closest_up}
 use Rattle.casts.proofs.closest_over.Goals as goal

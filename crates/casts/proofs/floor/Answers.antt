@@ -1,6 +1,6 @@
 -- `casts::floor` meets its contract: the sign's bit is taken off the pattern and set in front of the rest, cleared of what is below 1. Assumes nothing.
 -- what owning an `f64` tells: the format holds it
-use Rattle.std.proofs.Common.{Float, ◌≡◌, true, true, T, sym, ap, ◌∙◌, subst, zero-add, rules}
+use Rattle.std.proofs.Common.{Float, ◌≡◌, true, true, T, sym, ap, ◌∙◌, subst, zero-add}
 use lib.Ieee.{binary64, fits, of_bits}
 use lib.Ieee.Compare.{differs_from_itself}
 use Rattle.casts.specs.Cast.{floored}

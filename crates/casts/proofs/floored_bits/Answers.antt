@@ -1,5 +1,5 @@
 -- `casts::floored_bits` meets its contract, by the laws of proofs/Floors.antt, one for each range of the exponent's field. Assumes nothing.
-use Rattle.std.proofs.Common.{false, refl, arith, rules}
+use Rattle.std.proofs.Common.{false, refl, arith}
 use Rattle.casts.proofs.Floors.{floors_tiny, floors_far, floors_mid}
 use Rattle.casts.proofs.floored_bits.Goals as goal
 

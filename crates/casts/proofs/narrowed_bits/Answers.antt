@@ -1,5 +1,5 @@
 -- `casts::narrowed_bits` meets its contract, by the laws of proofs/Narrowing.antt, one for each range of the exponent's field. Assumes nothing.
-use Rattle.std.proofs.Common.{◌^◌, ◌≤◌, ◌≡◌, ℕ, ◌+◌, ◌-◌, ◌*◌, ◌/◌, ◌%◌, ◌<◌, sym, ap, ◌∙◌, subst, inl, inr, eq-or-lt_of_le, arith, pow_pos, rules}
+use Rattle.std.proofs.Common.{◌^◌, ◌≤◌, ◌≡◌, ℕ, ◌+◌, ◌-◌, ◌*◌, ◌/◌, ◌%◌, ◌<◌, sym, ap, ◌∙◌, subst, inl, inr, eq-or-lt_of_le, arith, pow_pos}
 use lib.Ieee.Nearest.{closest}
 use Rattle.casts.specs.Cast.{Narrows}
 use Rattle.casts.proofs.Narrowing.{narrows_inf, narrows_past, narrows_mid, narrows_low, narrows_tiny}

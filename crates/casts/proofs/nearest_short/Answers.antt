@@ -1,5 +1,5 @@
 -- `casts::nearest_short` meets its contract: the sign's bit is taken off the pattern and set in front of the narrowed rest. Assumes nothing.
-use Rattle.std.proofs.Common.{ℕ, true, false, sym, ap, ◌∙◌, add-sub_of_le, zero-add, rules}
+use Rattle.std.proofs.Common.{ℕ, true, false, sym, ap, ◌∙◌, add-sub_of_le, zero-add}
 use lib.Ieee.{binary32, binary64, of_bits}
 use Rattle.casts.specs.Cast.{narrowed}
 use Rattle.casts.proofs.Split.{signed_no_nan, plain_no_nan}

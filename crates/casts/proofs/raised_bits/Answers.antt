@@ -1,6 +1,6 @@
 -- `casts::raised_bits` meets its contract, by the laws of proofs/Floors.antt, one for each range of the exponent's field. Assumes nothing.
 -- 2 ^ k is at most 2 ^ 52
-use Rattle.std.proofs.Common.{◌^◌, ◌≡◌, ℕ, ◌-◌, ◌/◌, ◌≤◌, true, sym, refl, subst, arith, pow_pos, pow_mono, rules}
+use Rattle.std.proofs.Common.{◌^◌, ◌≡◌, ℕ, ◌-◌, ◌/◌, ◌≤◌, true, sym, refl, subst, arith, pow_pos, pow_mono}
 use Rattle.casts.proofs.Floors.{raises_zero, raises_tiny, floors_far, raises_mid}
 use Rattle.casts.proofs.raised_bits.Goals as goal
 

@@ -1,6 +1,6 @@
 -- `casts::rounded_bits` meets its contract: the digits below an f32's are rounded away in place. Assumes nothing.
 -- what owning a `u64` tells
-use Rattle.std.proofs.Common.{ℕ, ◌<◌, sym, subst, arith, rules}
+use Rattle.std.proofs.Common.{ℕ, sym, subst, arith}
 use Rattle.casts.specs.Cast.{Rounds}
 use Rattle.casts.proofs.Inplace.{enough, under, in_place}
 use Rattle.casts.proofs.rounded_bits.Goals as goal

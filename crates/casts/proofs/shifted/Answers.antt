@@ -1,5 +1,5 @@
 -- `casts::shifted` meets its contract: one digit up is a product by 2. Assumes nothing.
-use Rattle.std.proofs.Common.{◌≡◌, ℕ, ◌+◌, ◌-◌, ◌*◌, ◌^◌, ◌<◌, ◌≤◌, sym, refl, ap, ◌∙◌, subst, le_of_eq, lt_of_le_of_lt, mul_assoc, mul-le-mul_left, mul-one, arith, pow_pos, pow-add, rules}
+use Rattle.std.proofs.Common.{◌≡◌, ℕ, ◌+◌, ◌-◌, ◌*◌, ◌^◌, ◌<◌, ◌≤◌, sym, refl, ap, ◌∙◌, subst, lt_of_le_of_lt, mul_assoc, mul-le-mul_left, mul-one, arith, pow_pos, pow-add}
 use Rattle.casts.proofs.shifted.Goals as goal
 
 one_digit : (y k : ℕ) → 0 < k → y * 2 * 2 ^ (k - 1) ≡ y * 2 ^ k

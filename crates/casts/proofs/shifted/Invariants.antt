@@ -1,4 +1,4 @@
-use Rattle.std.proofs.Common.{◌≡◌, ℕ, ◌+◌, ◌-◌, ◌*◌, ◌^◌, ◌<◌, ◌≤◌, sym, refl, ap, ◌∙◌, subst, le_of_eq, lt_of_le_of_lt, mul_assoc, mul-le-mul_left, mul-one, arith, pow_pos, pow-add, rules}
+use Rattle.std.proofs.Common.{◌≡◌, ◌*◌, ◌^◌}
 use Rattle.casts.proofs.shifted.Given as goal
 
 abbrev pub invariant-loop-left : goal.invariant-loop-left

@@ -1,5 +1,5 @@
 -- `casts::signed_part` meets its contract, by the laws of proofs/Whole.antt. Assumes nothing.
-use Rattle.std.proofs.Common.{T, sym, subst, rules}
+use Rattle.std.proofs.Common.{T, sym, subst}
 use lib.Ieee.{of_bits, neg}
 use Rattle.casts.proofs.Whole.{signed_high, signed_low, signed_nan}
 use Rattle.casts.proofs.signed_part.Goals as goal

@@ -1,5 +1,5 @@
 -- `casts::whole_part` meets its contract. Assumes nothing.
-use Rattle.std.proofs.Common.{T, sym, subst, rules}
+use Rattle.std.proofs.Common.{T, sym, subst}
 use lib.Ieee.{of_bits, neg}
 use Rattle.casts.proofs.Whole.{low_end, high_end}
 use Rattle.casts.proofs.whole_part.Goals as goal

@@ -1,6 +1,6 @@
 -- `casts::widen` meets its contract: the sign's bit is taken off the pattern and set in front of the widened rest. Assumes nothing.
 -- what owning an `f32` tells: the format holds it
-use Rattle.std.proofs.Common.{Float, ◌≡◌, true, true, false, T, sym, ap, ◌∙◌, subst, zero-add, rules}
+use Rattle.std.proofs.Common.{Float, ◌≡◌, true, true, false, T, sym, ap, ◌∙◌, subst, zero-add}
 use lib.Ieee.{binary32, binary64, fits, of_bits}
 use lib.Ieee.Compare.{differs_from_itself}
 use Rattle.casts.proofs.Split.{zero_by_zero, no_nan, plain_le, plain_is, minus_le, minus_is, signed_no_nan, plain_no_nan}

@@ -1,5 +1,5 @@
 -- `casts::widened_bits` meets its contract, by the laws of proofs/Widening.antt. Assumes nothing.
-use Rattle.std.proofs.Common.{◌≡◌, arith, rules}
+use Rattle.std.proofs.Common.{◌≡◌, arith}
 use Rattle.casts.proofs.Widening.{widens_zero, widens_whole, widens_inf}
 use Rattle.casts.proofs.widened_bits.Goals as goal
 

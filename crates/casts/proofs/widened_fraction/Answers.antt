@@ -1,5 +1,5 @@
 -- `casts::widened_fraction` meets its contract: `widens_shifted` of proofs/Widening.antt. Assumes nothing.
-use Rattle.std.proofs.Common.{arith, rules}
+use Rattle.std.proofs.Common.{arith}
 use lib.Count.{leading_le}
 use Rattle.casts.proofs.Widening.{shift_fits, widens_shifted}
 use Rattle.casts.proofs.widened_fraction.Goals as goal
