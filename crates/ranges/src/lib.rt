@@ -1,5 +1,7 @@
 // Document 01's ranges: of a number, of each number of a list, and of a list of positions. A loop here counts what lies outside and goes on to the
 // end, since one that may end early is not vectorized; refusal 4 looks at every kept list in each call. Uses nothing.
+#![tactic(auto)]
+
 ghost use Rattle.std.specs.Prelude.{◌≡◌, ◌≤◌, if◌then◌else◌};
 ghost use Rattle.ranges.specs.Ranges.{in_range, all_in_range, rising_from};
 
