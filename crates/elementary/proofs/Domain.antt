@@ -91,10 +91,14 @@ domain (fin true m e) a b = omega (arith, le_says true (1 * 2 ^ 6 * down e) true
 
 over_ln2 : (v : Float) → Within v 64 → Within (v ⊘ LN2) 93
 unfolding div of_bits
+over_ln2 nan h = elim h [ ]
+over_ln2 (inf _) h = elim h [ ]
 over_ln2 (fin s m e) h = round_within _ (m * up e * 9007199254740992) (6243314768165359 * down e) 93 (omega (arith, down_pos e)) (omega arith) (omega arith)
 
 and_half : (x : Float) → Within x 93 → Within (x ⊕ half) 94
 unfolding add sum of_bits
+and_half nan h = elim h [ ]
+and_half (inf _) h = elim h [ ]
 and_half (fin false m e) h = round_within false (m * up e * 2 + 1 * down e) (down e * 2) 94 (omega (arith, down_pos e)) (omega arith) (omega arith)
 and_half (fin true m e) h = go (ltb (m * up e * 2) (1 * down e))
   where
@@ -112,6 +116,8 @@ pub record Unclamped (k : Float) : Type 0 where
 
 cut : (k : Float) (s : Bool) (n : ℕ) → HasValue k s n 1 → n ≤ 94 → to_signed 63 k ≡ cond s (neg_ℤ (pos n)) (pos n)
 unfolding to_signed
+cut nan s n v h = elim v [ ]
+cut (inf _) s n v h = elim v [ ]
 cut (fin t m e) s n v h =
     let q : m * up e / down e ≡ n = ap (λ (x : ℕ). x / down e) (sym (mul-one (m * up e)) ∙ v.1) ∙ mul-div_cancel n (down_pos e) in
     let a : min n (2 ^ 63) ≡ n = omega arith in
@@ -129,6 +135,8 @@ unclamped k s n v h = record { minus = s; n = n; value = v; small = h; power = a
 
 of_floor : (y : Float) → Within y 94 → Unclamped (floored y)
 unfolding floored
+of_floor nan h = elim h [ ]
+of_floor (inf _) h = elim h [ ]
 of_floor (fin false m e) h =
     let l : m * up e / down e ≤ 94 = at_most (m * up e) (down e) (down_pos e) (omega (arith, down_pos e)) in
     unclamped _ false (m * up e / down e) (round_whole binary64 false (m * up e / down e) (omega arith)) l

@@ -1,5 +1,7 @@
 // 01's SIN, COS, EXP, LN, POW and TANH, each equal to its definition in specs/Elementary.antt at every float.
 // Uses casts and std.
+#![tactic(auto)]
+
 ghost use Rattle.std.specs.Prelude.{◌≡◌, ◌<◌, ◌≤◌};
 ghost use Rattle.casts.specs.Arithmetic.{◌⊗◌};
 ghost use Rattle.elementary.specs.Elementary.{turn, SIN, COS, EXP, LN, POW, TANH};
