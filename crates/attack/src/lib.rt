@@ -1,4 +1,6 @@
 // The gain of a kick that attacks: from the table of document 02, E2, where the attack is the table's, else by the division. Uses casts.
+#![tactic(auto)]
+
 ghost use Rattle.std.specs.Prelude.{◌≡◌};
 ghost use Rattle.attack.specs.Machine.{attack_gain};
 ghost use Rattle.attack.specs.Kept.{strip_floor, tabled};
