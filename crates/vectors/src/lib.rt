@@ -1,11 +1,13 @@
 // What the replays share: names and numbers in a line of a kept list, bit patterns, and the tally of the answers that are alike.
 // A line begins with the name of what is answered, and its numbers are of 16 digits with a byte after each. A list of names
 // has 8 bytes for each of at most 15, and blanks after a shorter one. What lies past the end of a list reads as a blank.
-// It may use casts and the kit's io and libc.
+// It may use casts.
 #![tactic(auto)]
 
-ghost use Rattle.std.specs.Prelude.{◌≡◌, ◌<◌, ◌≤◌, from_bits, to_bits};
+ghost use Rattle.std.specs.Prelude.{◌≡◌, ◌<◌, ◌≤◌, IfOk, from_bits, length, to_bits};
 ghost use Rattle.std.specs.Float.{binary32, binary64};
+
+use std::io::{self, Print, Read};
 
 // The kind of what has no name.
 pub const OTHER: usize = 15;
@@ -184,41 +186,59 @@ fn total(counts: &[u64; 16]) -> u64 {
     sum
 }
 
+// Reads until `line` is full or the input ends, and answers how many bytes stand at its start.
+pub fn read_full<R: Read>(input: &mut R, line: &mut [u8]) -> io::Result<usize>
+    ensures { IfOk result (λ n. n ≤ length line.new) }
+{
+    let mut done: usize = 0;
+    while done < line.len() {
+        let n = input.read(&mut line[done..])?;
+        if n == 0 {
+            return Ok(done);
+        }
+        done += n;
+    }
+    Ok(done)
+}
+
 // A line of the tally: a name, its answers and those alike.
-pub fn print_line(name: &[u8], answers: u64, alike: u64) {
-    io::write_all(1, name);
-    io::write_all(1, b"\t");
-    io::print_decimal(1, answers);
-    io::write_all(1, b"\t");
-    io::print_decimal(1, alike);
-    io::write_all(1, b"\n");
+pub fn print_line<P: Print>(rt: &P, name: &[u8], answers: u64, alike: u64) -> io::Result<()> {
+    rt.write_all(name)?;
+    println!(rt; "\t{answers}\t{alike}")
 }
 
 // The line of the kind whose name stands at `at`, if one does.
-fn print_kind(names: &[u8], at: usize, answers: u64, alike: u64)
+fn print_kind<P: Print>(rt: &P, names: &[u8], at: usize, answers: u64, alike: u64) -> io::Result<()>
     requires { at < 4096 }
 {
     let end = at + name_len(names, at);
     if end <= names.len() {
         if at < end {
-            print_line(&names[at..end], answers, alike);
+            print_line(rt, &names[at..end], answers, alike)?;
         }
     }
+    Ok(())
 }
 
-fn print_kinds(names: &[u8], answers: &[u64; 16], alike: &[u64; 16]) {
+fn print_kinds<P: Print>(
+    rt: &P,
+    names: &[u8],
+    answers: &[u64; 16],
+    alike: &[u64; 16],
+) -> io::Result<()> {
     let mut k: usize = 0;
     while k < OTHER {
-        print_kind(names, 8 * k, answers[k], alike[k]);
+        print_kind(rt, names, 8 * k, answers[k], alike[k])?;
         k += 1;
     }
+    Ok(())
 }
 
 // A line for each name, one for all others, and the total.
-pub fn print_tally(names: &[u8], t: Tally) {
+pub fn print_tally<P: Print>(rt: &P, names: &[u8], t: Tally) -> io::Result<()> {
     let answers = t.answers;
     let alike = t.alike;
-    print_kinds(names, &answers, &alike);
-    print_line(b"other", answers[15], alike[15]);
-    print_line(b"total", total(&answers), total(&alike));
+    print_kinds(rt, names, &answers, &alike)?;
+    print_line(rt, b"other", answers[15], alike[15])?;
+    print_line(rt, b"total", total(&answers), total(&alike))
 }
