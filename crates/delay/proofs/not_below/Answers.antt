@@ -1,7 +1,0 @@
-use Rattle.delay.proofs.not_below.Goals as goal
-
-pub returns-then-x-y : goal.returns-then-x-y
-returns-then-x-y c = rw c.if-x-y.true
-
-pub returns-else-x-y : goal.returns-else-x-y
-returns-else-x-y c = rw c.if-x-y.false
