@@ -1,0 +1,14 @@
+use mathlib.Core.Path.{◌≡◌}
+use Prim.Native.Nat.{◌-◌, ◌≤◌}
+use lib.ListN.{drop}
+use Rattle.duck.specs.Cursors.{kicks_in, marks_in, times_until}
+use Rattle.duck.proofs.product_from.Given as goal
+
+abbrev pub invariant-loop-c : goal.invariant-loop-c
+invariant-loop-c l =
+    (l.c ≤ l.count)
+    × (times_until l.rate l.n l.gain (drop l.c (kicks_in l.count l.counts)) (drop l.c (marks_in l.count l.counts))
+    ≡ times_until l.rate l.n l.gain-2 (drop l.from (kicks_in l.count l.counts)) (drop l.from (marks_in l.count l.counts)))
+
+abbrev pub decreases-loop-c : goal.decreases-loop-c
+decreases-loop-c l = l.count - l.c
