@@ -1,6 +1,5 @@
 use mathlib.Core.Path.{sym}
 use Rattle.rate.proofs.Plate.{input_44100, left_44100, right_44100, plate_44100}
-use borrow.Author.Rules.{rules}
 use Rattle.rate.proofs.PlateRate.cd.Goals as goal
 
 pub returns : goal.returns

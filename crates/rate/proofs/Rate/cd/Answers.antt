@@ -1,5 +1,4 @@
 -- `Rate::cd` meets its contract: its parts are the stages' own. Assumes nothing.
-use borrow.Author.Rules.{rules}
 use Rattle.rate.specs.Rate.{rate_of}
 use Rattle.rate.proofs.Rate.cd.Goals as goal
 
