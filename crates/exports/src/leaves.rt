@@ -8,13 +8,11 @@ use rate::{PlateRate, TapeRate};
 
 const HZ: u32 = 44100;
 
-#[unsafe(no_mangle)]
-pub extern "C" fn goqhari_test_flush(v: f64) -> f64 {
+pub fn goqhari_test_flush(v: f64) -> f64 {
     stream::flush(v)
 }
 
-#[unsafe(no_mangle)]
-pub extern "C" fn goqhari_test_section(s: &mut [f64; 9], x: f64) -> f64 {
+pub fn goqhari_test_section(s: &mut [f64; 9], x: f64) -> f64 {
     let section = Section {
         b0: s[0],
         b1: s[1],
@@ -74,29 +72,21 @@ fn lowpass_at(hz: f32) -> Lowpass {
 }
 
 // The sections of an order-4 low-pass.
-#[unsafe(no_mangle)]
-pub extern "C" fn goqhari_test_lowpass(hz: f32, first: &mut [f64; 5], second: &mut [f64; 5]) {
+pub fn goqhari_test_lowpass(hz: f32, first: &mut [f64; 5], second: &mut [f64; 5]) {
     let l = lowpass_at(hz);
     write_five(five_of(l.first), first);
     write_five(five_of(l.second), second);
 }
 
 // The same of a low-pass that was tuned to `from` before, and has a past.
-#[unsafe(no_mangle)]
-pub extern "C" fn goqhari_test_retuned(
-    from: f32,
-    hz: f32,
-    first: &mut [f64; 5],
-    second: &mut [f64; 5],
-) {
+pub fn goqhari_test_retuned(from: f32, hz: f32, first: &mut [f64; 5], second: &mut [f64; 5]) {
     let l = lowpass_at(from).step(1.0).retuned(hz, HZ);
     write_five(five_of(l.first), first);
     write_five(five_of(l.second), second);
 }
 
 // The rate's own coefficients: the head bump, the rolloff's two sections, the plate's high-pass.
-#[unsafe(no_mangle)]
-pub extern "C" fn goqhari_test_fixed(which: u64, out: &mut [f64; 5]) {
+pub fn goqhari_test_fixed(which: u64, out: &mut [f64; 5]) {
     let tape = TapeRate::cd();
     let plate = PlateRate::cd();
     match which {
@@ -108,8 +98,7 @@ pub extern "C" fn goqhari_test_fixed(which: u64, out: &mut [f64; 5]) {
 }
 
 // The rate's own poles: the tilt's, and the plate's damping.
-#[unsafe(no_mangle)]
-pub extern "C" fn goqhari_test_pole(damping: bool) -> f64 {
+pub fn goqhari_test_pole(damping: bool) -> f64 {
     if damping {
         PlateRate::DAMPING
     } else {
@@ -117,8 +106,7 @@ pub extern "C" fn goqhari_test_pole(damping: bool) -> f64 {
     }
 }
 
-#[unsafe(no_mangle)]
-pub extern "C" fn goqhari_test_onepole(s: &mut [f64; 2], x: f64) -> f64 {
+pub fn goqhari_test_onepole(s: &mut [f64; 2], x: f64) -> f64 {
     let next = OnePole {
         pole: s[0],
         y: s[1],
@@ -129,8 +117,7 @@ pub extern "C" fn goqhari_test_onepole(s: &mut [f64; 2], x: f64) -> f64 {
     next.y
 }
 
-#[unsafe(no_mangle)]
-pub extern "C" fn goqhari_test_tilt(s: &mut [f64; 2], rain: f64, x: f64) -> f64 {
+pub fn goqhari_test_tilt(s: &mut [f64; 2], rain: f64, x: f64) -> f64 {
     let next = OnePole {
         pole: s[0],
         y: s[1],
@@ -141,15 +128,13 @@ pub extern "C" fn goqhari_test_tilt(s: &mut [f64; 2], rain: f64, x: f64) -> f64 
     next.out
 }
 
-#[unsafe(no_mangle)]
-pub extern "C" fn goqhari_test_push(ring: &mut [f64], written: u64, x: f64) {
+pub fn goqhari_test_push(ring: &mut [f64], written: u64, x: f64) {
     if 0 < ring.len() {
         delay::push(ring, written, x);
     }
 }
 
-#[unsafe(no_mangle)]
-pub extern "C" fn goqhari_test_at(ring: &[f64], written: u64, delay: u64) -> f64 {
+pub fn goqhari_test_at(ring: &[f64], written: u64, delay: u64) -> f64 {
     if ring.len() == 0 {
         return 0.0;
     }
@@ -159,8 +144,7 @@ pub extern "C" fn goqhari_test_at(ring: &[f64], written: u64, delay: u64) -> f64
     0.0
 }
 
-#[unsafe(no_mangle)]
-pub extern "C" fn goqhari_test_tap(ring: &[f64], written: u64, max_delay: f64, delay: f64) -> f64 {
+pub fn goqhari_test_tap(ring: &[f64], written: u64, max_delay: f64, delay: f64) -> f64 {
     if ring.len() == 0 {
         return 0.0;
     }
@@ -187,19 +171,16 @@ fn ramp_of(ends: &[f64; 2], span: &[u64; 2], db: bool) -> Ramp {
     }
 }
 
-#[unsafe(no_mangle)]
-pub extern "C" fn goqhari_test_ramp_at(ends: &[f64; 2], span: &[u64; 2], db: bool, n: u64) -> f64 {
+pub fn goqhari_test_ramp_at(ends: &[f64; 2], span: &[u64; 2], db: bool, n: u64) -> f64 {
     ramp_of(ends, span, db).at(n)
 }
 
 // The ramp of daylight as the sample at n plays it.
-#[unsafe(no_mangle)]
-pub extern "C" fn goqhari_test_daylight(ends: &[f64; 2], span: &[u64; 2], n: u64) -> f64 {
+pub fn goqhari_test_daylight(ends: &[f64; 2], span: &[u64; 2], n: u64) -> f64 {
     automation::daylight_at(ramp_of(ends, span, false), n)
 }
 
-#[unsafe(no_mangle)]
-pub extern "C" fn goqhari_test_ramp_toward(
+pub fn goqhari_test_ramp_toward(
     ends: &mut [f64; 2],
     span: &mut [u64; 2],
     db: bool,
@@ -215,8 +196,7 @@ pub extern "C" fn goqhari_test_ramp_toward(
 }
 
 // The corner of a fixed tone at n, swept.
-#[unsafe(no_mangle)]
-pub extern "C" fn goqhari_test_sweep(points: &[u64], values: &[f64], own: f32, n: u64) -> f32 {
+pub fn goqhari_test_sweep(points: &[u64], values: &[f64], own: f32, n: u64) -> f32 {
     if values.len() < points.len() {
         return 0.0;
     }
@@ -230,13 +210,11 @@ pub extern "C" fn goqhari_test_sweep(points: &[u64], values: &[f64], own: f32, n
         .corner
 }
 
-#[unsafe(no_mangle)]
-pub extern "C" fn goqhari_test_swept(own: f32, value: f64) -> f32 {
+pub fn goqhari_test_swept(own: f32, value: f64) -> f32 {
     automation::swept(own, value)
 }
 
-#[unsafe(no_mangle)]
-pub extern "C" fn goqhari_test_grade_corner(night: f32, day: f32, t: f64) -> f32 {
+pub fn goqhari_test_grade_corner(night: f32, day: f32, t: f64) -> f32 {
     let tone = Tone::Graded {
         night_corner: night,
         day_corner: day,
@@ -246,8 +224,7 @@ pub extern "C" fn goqhari_test_grade_corner(night: f32, day: f32, t: f64) -> f32
     automation::tone_at(tone, t).corner
 }
 
-#[unsafe(no_mangle)]
-pub extern "C" fn goqhari_test_grade_drive(night: f32, day: f32, t: f64) -> f64 {
+pub fn goqhari_test_grade_drive(night: f32, day: f32, t: f64) -> f64 {
     let tone = Tone::Graded {
         night_corner: 1000.0,
         day_corner: 1000.0,
@@ -257,14 +234,12 @@ pub extern "C" fn goqhari_test_grade_drive(night: f32, day: f32, t: f64) -> f64 
     automation::tone_at(tone, t).drive
 }
 
-#[unsafe(no_mangle)]
-pub extern "C" fn goqhari_test_sidechain(since: u64) -> f64 {
+pub fn goqhari_test_sidechain(since: u64) -> f64 {
     sidechain::sidechain_gain(TapeRate::cd().duck, since)
 }
 
 // Keeps the kicks in a duck's part; answers how many.
-#[unsafe(no_mangle)]
-pub extern "C" fn goqhari_test_duck_new(kicks: &[u64], counts: &mut [u64]) -> usize {
+pub fn goqhari_test_duck_new(kicks: &[u64], counts: &mut [u64]) -> usize {
     if ranges::MOST_KICKS < kicks.len() {
         return 0;
     }
@@ -275,13 +250,7 @@ pub extern "C" fn goqhari_test_duck_new(kicks: &[u64], counts: &mut [u64]) -> us
 }
 
 // The gain of the sample n; the cursors are count, reached and ducking.
-#[unsafe(no_mangle)]
-pub extern "C" fn goqhari_test_duck(
-    counts: &mut [u64],
-    cursors: &mut [usize; 3],
-    n: u64,
-    drums: bool,
-) -> f64 {
+pub fn goqhari_test_duck(counts: &mut [u64], cursors: &mut [usize; 3], n: u64, drums: bool) -> f64 {
     if counts.len() < duck::COUNTS {
         return 0.0;
     }

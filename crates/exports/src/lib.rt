@@ -1,5 +1,5 @@
-// Thin C functions over the crates, for the Rust harness beside the part and for the replays; nothing else uses them. sinh and the f32
-// functions stand here whole, since no crate of the part calls them.
+// Thin functions over the crates, for the Rust harness beside the part, for which exports_c exports them, and for the replays; nothing else
+// uses them. sinh and the f32 functions stand here whole, since no crate of the part calls them.
 // Rust promises nothing of what it passes: each tests lengths and bounds first, and does nothing where they do not hold.
 #![tactic(auto)]
 
@@ -8,72 +8,59 @@ ghost use Rattle.elementary.specs.Elementary.{SINH, SIN32, POW32};
 
 pub mod leaves;
 
-#[unsafe(no_mangle)]
-pub extern "C" fn goqhari_test_widen(x: f32) -> f64 {
+pub fn goqhari_test_widen(x: f32) -> f64 {
     casts::widen(x)
 }
 
-#[unsafe(no_mangle)]
-pub extern "C" fn goqhari_test_narrow(x: f64) -> f32 {
+pub fn goqhari_test_narrow(x: f64) -> f32 {
     casts::narrow(x)
 }
 
-#[unsafe(no_mangle)]
-pub extern "C" fn goqhari_test_floor(x: f64) -> f64 {
+pub fn goqhari_test_floor(x: f64) -> f64 {
     casts::floor(x)
 }
 
-#[unsafe(no_mangle)]
-pub extern "C" fn goqhari_test_whole(x: f64) -> u64 {
+pub fn goqhari_test_whole(x: f64) -> u64 {
     casts::whole_part(x)
 }
 
-#[unsafe(no_mangle)]
-pub extern "C" fn goqhari_test_sin(v: f64) -> f64 {
+pub fn goqhari_test_sin(v: f64) -> f64 {
     elementary::sin(v)
 }
 
-#[unsafe(no_mangle)]
-pub extern "C" fn goqhari_test_cos(v: f64) -> f64 {
+pub fn goqhari_test_cos(v: f64) -> f64 {
     elementary::cos(v)
 }
 
-#[unsafe(no_mangle)]
-pub extern "C" fn goqhari_test_exp(v: f64) -> f64 {
+pub fn goqhari_test_exp(v: f64) -> f64 {
     elementary::exp(v)
 }
 
-#[unsafe(no_mangle)]
-pub extern "C" fn goqhari_test_ln(x: f64) -> f64 {
+pub fn goqhari_test_ln(x: f64) -> f64 {
     elementary::ln(x)
 }
 
-#[unsafe(no_mangle)]
-pub extern "C" fn goqhari_test_pow(b: f64, p: f64) -> f64 {
+pub fn goqhari_test_pow(b: f64, p: f64) -> f64 {
     elementary::pow(b, p)
 }
 
-#[unsafe(no_mangle)]
-pub extern "C" fn goqhari_test_tanh(v: f64) -> f64 {
+pub fn goqhari_test_tanh(v: f64) -> f64 {
     elementary::tanh(v)
 }
 
-#[unsafe(no_mangle)]
-pub extern "C" fn goqhari_test_sinh(v: f64) -> f64
+pub fn goqhari_test_sinh(v: f64) -> f64
     ensures { result ≡ SINH v }
 {
     (elementary::exp(v) - elementary::exp(-v)) / 2.0
 }
 
-#[unsafe(no_mangle)]
-pub extern "C" fn goqhari_test_sin_f32(x: f32) -> f32
+pub fn goqhari_test_sin_f32(x: f32) -> f32
     ensures { result ≡ SIN32 x }
 {
     casts::narrow(elementary::sin(casts::widen(x)))
 }
 
-#[unsafe(no_mangle)]
-pub extern "C" fn goqhari_test_pow_f32(b: f32, p: f32) -> f32
+pub fn goqhari_test_pow_f32(b: f32, p: f32) -> f32
     ensures { result ≡ POW32 b p }
 {
     casts::narrow(elementary::pow(casts::widen(b), casts::widen(p)))

@@ -1,5 +1,5 @@
-// C functions for the Rust harness beside the part: a fresh tape lane, plate or ceiling over a whole signal, in calls of the
-// lengths that are given, and the lane's tilt. Only the harness and the replay use them. Rust promises nothing of what it passes: lengths and
+// Functions for the Rust harness beside the part, for which exports_stages_c exports them: a fresh tape lane, plate or ceiling over a whole
+// signal, in calls of the lengths that are given, and the lane's tilt. Only the harness and the replay use them. Rust promises nothing of what it passes: lengths and
 // bounds are tested first, and nothing is done where they do not hold.
 #![tactic(auto)]
 
@@ -314,8 +314,7 @@ fn fresh_lane(f32s: &[f32; 8], kicks: usize) -> Lane {
 }
 
 // A fresh lane; whether it is at rest at the end.
-#[unsafe(no_mangle)]
-pub extern "C" fn goqhari_test_tape(
+pub fn goqhari_test_tape(
     f32s: &[f32; 8],
     f64s: &[f64; 4],
     flags: u64,
@@ -342,8 +341,7 @@ pub extern "C" fn goqhari_test_tape(
 }
 
 // The lane's tilt at a rain, of a one-pole that it lends to its step: pole and y.
-#[unsafe(no_mangle)]
-pub extern "C" fn goqhari_test_tilt_lent(s: &mut [f64; 2], rain: f64, x: f64) -> f64 {
+pub fn goqhari_test_tilt_lent(s: &mut [f64; 2], rain: f64, x: f64) -> f64 {
     let lp = OnePole {
         pole: s[0],
         y: s[1],
@@ -407,8 +405,7 @@ fn all_plated(
 }
 
 // A fresh plate over what lies in left, in calls of the given lengths; whether it is at rest at the end.
-#[unsafe(no_mangle)]
-pub extern "C" fn goqhari_test_plate(
+pub fn goqhari_test_plate(
     part: &mut [f64],
     left: &mut [f64],
     right: &mut [f64],
@@ -504,8 +501,7 @@ fn all_limited(
 }
 
 // A fresh ceiling over the frames (left, right), in calls of the given lengths.
-#[unsafe(no_mangle)]
-pub extern "C" fn goqhari_test_ceiling(
+pub fn goqhari_test_ceiling(
     samples: &mut [f64],
     counts: &mut [u64],
     left: &[f64],

@@ -1,4 +1,4 @@
-// The four calls for C (include/goqhari.h): `rt staticlib goqhari` builds the library from them. The strip stands packed in two lists that the caller lends.
+// The four calls for C (include/goqhari.h), which goqhari_c exports. The strip stands packed in two lists that the caller lends.
 // No call has a `requires`, and each contract is the Rattle call's through the packing (specs/Library.antt).
 // Uses part for the calls, packing for the strip, refusals for 1, setup for the setup.
 #![tactic(auto)]
@@ -68,8 +68,7 @@ fn told(answer: Rested, rests: &mut [u64; 1]) -> u64
 
 // ---- open
 
-#[unsafe(no_mangle)]
-pub extern "C" fn goqhari_open(
+pub fn goqhari_open(
     singles: &[f32; 8],
     doubles: &[f64; 4],
     flags: u64,
@@ -105,8 +104,7 @@ fn drums_on(drums: u64) -> bool
     true
 }
 
-#[unsafe(no_mangle)]
-pub extern "C" fn goqhari_run(
+pub fn goqhari_run(
     numbers: &mut [f64],
     words: &mut [u64],
     samples: &[f64],
@@ -131,8 +129,7 @@ pub extern "C" fn goqhari_run(
 
 // ---- latch
 
-#[unsafe(no_mangle)]
-pub extern "C" fn goqhari_latch(
+pub fn goqhari_latch(
     numbers: &mut [f64],
     words: &mut [u64],
     daylight: f32,
@@ -162,8 +159,7 @@ pub extern "C" fn goqhari_latch(
 
 // ---- rest
 
-#[unsafe(no_mangle)]
-pub extern "C" fn goqhari_rest(
+pub fn goqhari_rest(
     numbers: &[f64],
     words: &[u64],
     rests: &mut [u64; 1],

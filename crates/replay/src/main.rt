@@ -1,8 +1,9 @@
 // Replays a kept list of the oracle's answers, on standard input, and prints how many of the part's are alike:
 // a line for each function (name, answers, answers alike) and a total, fields parted by tabs.
-// It may use casts, elementary, the exported functions, vectors and the kit's io and libc.
+// It may use casts, elementary, the exported functions and vectors.
 #![tactic(auto)]
 
+use std::io::{self, Read};
 use vectors::Tally;
 
 // The part's answer for a function on f64; the kinds count the names in `main`.
@@ -48,38 +49,38 @@ struct Turn {
 }
 
 // The next line, if a whole one is left.
-fn next(names: &[u8], t: Tally) -> Turn {
+fn next<R: Read>(input: &mut R, names: &[u8], t: Tally) -> io::Result<Turn> {
     let mut line = [0u8; 58];
-    let n = io::read_full(0, &mut line);
+    let n = vectors::read_full(input, &mut line)?;
     if n < 58 {
-        return Turn {
+        return Ok(Turn {
             more: false,
             tally: t,
-        };
+        });
     }
-    Turn {
+    Ok(Turn {
         more: true,
         tally: seen(names, t, &line),
-    }
+    })
 }
 
-fn tallied(names: &[u8]) -> Tally {
+fn tallied<R: Read>(input: &mut R, names: &[u8]) -> io::Result<Tally> {
     let mut t = vectors::none();
     let mut turns: u64 = u64::MAX;
     while turns > 0 {
-        let n = next(names, t);
+        let n = next(input, names, t)?;
         t = n.tally;
         if !n.more {
-            return t;
+            return Ok(t);
         }
         turns -= 1;
     }
-    t
+    Ok(t)
 }
 
-fn main() {
+fn main(rt: HostRuntime) -> io::Result<()> {
     let names =
         b"sin     cos     exp     ln      pow     tanh    sinh    sin32   pow32   widen   narrow  floor   whole   ";
-    let t = tallied(names);
-    vectors::print_tally(names, t);
+    let t = tallied(&mut rt.stdin(), names)?;
+    vectors::print_tally(&rt, names, t)
 }

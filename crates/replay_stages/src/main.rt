@@ -1,11 +1,12 @@
 // Replays a kept list of the oracle's answers, on standard input, and prints how many of the part's are alike:
 // a line for each thing (name, answers, answers alike) and a total, fields parted by tabs. The list has answers of
 // single functions, then signals through the tape, the plate, the ceiling and the duck.
-// It may use the exported functions, casts, vectors and the kit's io and libc.
+// It may use the exported functions, casts and vectors.
 #![tactic(auto)]
 
 ghost use Rattle.std.specs.Prelude.{◌≤◌, length};
 
+use std::io::{self, Read};
 use vectors::Tally;
 
 // ---- a line
@@ -18,19 +19,19 @@ struct Line {
 }
 
 // The next line, if a whole one is left.
-fn next_line() -> Line {
+fn next_line<R: Read>(input: &mut R) -> io::Result<Line> {
     let mut text = [0u8; 212];
-    let got = io::read_full(0, &mut text);
-    Line {
+    let got = vectors::read_full(input, &mut text)?;
+    Ok(Line {
         more: 212 <= got,
         text,
-    }
+    })
 }
 
 // The next line's numbers.
-fn next() -> [u64; 12] {
-    let text = next_line().text;
-    vectors::numbers(&text, 8)
+fn next<R: Read>(input: &mut R) -> io::Result<[u64; 12]> {
+    let text = next_line(input)?.text;
+    Ok(vectors::numbers(&text, 8))
 }
 
 fn float(b: u64) -> f64 {
@@ -134,52 +135,54 @@ fn answer(kind: usize, n: &[u64; 12]) -> u64 {
 // ---- the tally
 
 // The lines up to the first of no kind; a line's last number is the answer.
-fn tallied(names: &[u8]) -> Tally {
+fn tallied<R: Read>(input: &mut R, names: &[u8]) -> io::Result<Tally> {
     let mut t = vectors::none();
     let mut turns: u64 = u64::MAX;
     while turns > 0 {
-        let line = next_line();
+        let line = next_line(input)?;
         if !line.more {
-            return t;
+            return Ok(t);
         }
         let text = line.text;
         let kind = vectors::kind_of(names, &text);
         if kind == vectors::OTHER {
-            return t;
+            return Ok(t);
         }
         let n = vectors::numbers(&text, 8);
         t = vectors::counted(t, kind, answer(kind, &n) == n[11]);
         turns -= 1;
     }
-    t
+    Ok(t)
 }
 
 // ---- lists of numbers
 
 // Fills a list by the lines' numbers, 12 of each.
-fn fill(out: &mut [u64]) {
+fn fill<R: Read>(input: &mut R, out: &mut [u64]) -> io::Result<()> {
     let mut n = [0u64; 12];
     let mut i: usize = 0;
     while i < out.len() {
         if i % 12 == 0 {
-            n = next();
+            n = next(input)?;
         }
         out[i] = n[i % 12];
         i += 1;
     }
+    Ok(())
 }
 
 // The same by the floats that they are patterns of.
-fn fill_floats(out: &mut [f64]) {
+fn fill_floats<R: Read>(input: &mut R, out: &mut [f64]) -> io::Result<()> {
     let mut n = [0u64; 12];
     let mut i: usize = 0;
     while i < out.len() {
         if i % 12 == 0 {
-            n = next();
+            n = next(input)?;
         }
         out[i] = float(n[i % 12]);
         i += 1;
     }
+    Ok(())
 }
 
 // A signal over and over.
@@ -260,15 +263,15 @@ fn shorts(n: &[u64; 12]) -> [f32; 8] {
 
 // Reads a lane's setup, two lines of numbers with the flags, three of points, values and kicks, and four of twelve calls, and
 // runs the lane over the samples.
-fn through_tape(samples: &mut [f64]) {
-    let f32s = shorts(&next());
-    let second = next();
+fn through_tape<R: Read>(input: &mut R, samples: &mut [f64]) -> io::Result<()> {
+    let f32s = shorts(&next(input)?);
+    let second = next(input)?;
     let f64s = floats(&second);
-    let points = four(&next());
-    let values = floats(&next());
-    let kicks = next();
+    let points = four(&next(input)?);
+    let values = floats(&next(input)?);
+    let kicks = next(input)?;
     let mut calls = [0u64; 48];
-    fill(&mut calls);
+    fill(input, &mut calls)?;
     let mut ring = [0.0; 64];
     let mut counts = [0u64; 2048];
     exports_stages::goqhari_test_tape(
@@ -283,27 +286,28 @@ fn through_tape(samples: &mut [f64]) {
         samples,
         &calls,
     );
+    Ok(())
 }
 
-fn tape() -> u64 {
+fn tape<R: Read>(input: &mut R) -> io::Result<u64> {
     let mut samples = [0.0; 300];
     let mut kept = [0u64; 300];
-    fill_floats(&mut samples);
-    through_tape(&mut samples);
-    fill(&mut kept);
-    alike(&samples, &kept)
+    fill_floats(input, &mut samples)?;
+    through_tape(input, &mut samples)?;
+    fill(input, &mut kept)?;
+    Ok(alike(&samples, &kept))
 }
 
 // Past a kick's attack and release: a signal over and over, every answer kept.
-fn kicks() -> u64 {
+fn kicks<R: Read>(input: &mut R) -> io::Result<u64> {
     let mut x = [0.0; 300];
     let mut samples = [0.0; 10080];
     let mut kept = [0u64; 10080];
-    fill_floats(&mut x);
+    fill_floats(input, &mut x)?;
     repeat(&x, &mut samples);
-    through_tape(&mut samples);
-    fill(&mut kept);
-    alike(&samples, &kept)
+    through_tape(input, &mut samples)?;
+    fill(input, &mut kept)?;
+    Ok(alike(&samples, &kept))
 }
 
 // Whether the drums are on at n, which they are at first and turn at each of the places.
@@ -333,36 +337,37 @@ fn gains(kicks: &[u64; 12], turns: &[u64; 12], out: &mut [f64]) {
     }
 }
 
-fn duck() -> u64 {
-    let kicks = next();
-    let turns = next();
+fn duck<R: Read>(input: &mut R) -> io::Result<u64> {
+    let kicks = next(input)?;
+    let turns = next(input)?;
     let mut out = [0.0; 10080];
     let mut kept = [0u64; 10080];
     gains(&kicks, &turns, &mut out);
-    fill(&mut kept);
-    alike(&out, &kept)
+    fill(input, &mut kept)?;
+    Ok(alike(&out, &kept))
 }
 
 // The plate answers late: a signal over and over, the last answers kept.
-fn plate() -> u64 {
-    let calls = next();
+fn plate<R: Read>(input: &mut R) -> io::Result<u64> {
+    let calls = next(input)?;
     let mut x = [0.0; 300];
     let mut left = [0.0; 3000];
     let mut right = [0.0; 3000];
     let mut part = [0.0; 47104];
     let mut kept = [0u64; 300];
-    fill_floats(&mut x);
+    fill_floats(input, &mut x)?;
     repeat(&x, &mut left);
     exports_stages::goqhari_test_plate(&mut part, &mut left, &mut right, &calls);
-    fill(&mut kept);
+    fill(input, &mut kept)?;
     let of_left = alike(&left[2700..3000], &kept);
-    fill(&mut kept);
-    std::num::wrapping_add_u64(of_left, alike(&right[2700..3000], &kept))
+    fill(input, &mut kept)?;
+    let of_right = alike(&right[2700..3000], &kept);
+    Ok(std::num::wrapping_add_u64(of_left, of_right))
 }
 
 // Past the window of the needs.
-fn ceiling() -> u64 {
-    let calls = next();
+fn ceiling<R: Read>(input: &mut R) -> io::Result<u64> {
+    let calls = next(input)?;
     let mut left = [0.0; 2004];
     let mut right = [0.0; 2004];
     let mut frames = [0.0f32; 4008];
@@ -371,8 +376,8 @@ fn ceiling() -> u64 {
     let mut counts = [0u64; 1104];
     let mut kept_frames = [0u64; 4008];
     let mut kept_gains = [0u64; 2004];
-    fill_floats(&mut left);
-    fill_floats(&mut right);
+    fill_floats(input, &mut left)?;
+    fill_floats(input, &mut right)?;
     exports_stages::goqhari_test_ceiling(
         &mut samples,
         &mut counts,
@@ -382,27 +387,28 @@ fn ceiling() -> u64 {
         &mut gains,
         &calls,
     );
-    fill(&mut kept_frames);
-    fill(&mut kept_gains);
-    std::num::wrapping_add_u64(
+    fill(input, &mut kept_frames)?;
+    fill(input, &mut kept_gains)?;
+    Ok(std::num::wrapping_add_u64(
         sides_alike(&frames, &kept_frames),
         gains_alike(&gains, &kept_gains),
-    )
+    ))
 }
 
-fn main() {
+fn main(rt: HostRuntime) -> io::Result<()> {
     let names =
         b"section onepole tilt    delay   ramp    daylightsweep   opened  corner  drive   side    flush   ";
-    let t = tallied(names);
-    vectors::print_tally(names, t);
-    let of_tape = tape();
-    vectors::print_line(b"tape", 300, of_tape);
-    let of_kicks = kicks();
-    vectors::print_line(b"kicks", 10080, of_kicks);
-    let of_duck = duck();
-    vectors::print_line(b"duck", 10080, of_duck);
-    let of_plate = plate();
-    vectors::print_line(b"plate", 600, of_plate);
-    let of_ceiling = ceiling();
-    vectors::print_line(b"ceiling", 6012, of_ceiling);
+    let mut input = rt.stdin();
+    let t = tallied(&mut input, names)?;
+    vectors::print_tally(&rt, names, t)?;
+    let of_tape = tape(&mut input)?;
+    vectors::print_line(&rt, b"tape", 300, of_tape)?;
+    let of_kicks = kicks(&mut input)?;
+    vectors::print_line(&rt, b"kicks", 10080, of_kicks)?;
+    let of_duck = duck(&mut input)?;
+    vectors::print_line(&rt, b"duck", 10080, of_duck)?;
+    let of_plate = plate(&mut input)?;
+    vectors::print_line(&rt, b"plate", 600, of_plate)?;
+    let of_ceiling = ceiling(&mut input)?;
+    vectors::print_line(&rt, b"ceiling", 6012, of_ceiling)
 }
