@@ -70,7 +70,7 @@ pub fn lane(strip: &Strip, name: &str) -> String {
     let sections: Vec<String> =
         strip.tape.sections().iter().map(|section| format!("\n    (section{})", doubles(section))).collect();
     format!(
-        "lane {} ({name} .setup) ({name} .lists) {}{}\n    ({})\n    (pole{})\n    ({})",
+        "lane {} {name}.setup {name}.lists {}{}\n    ({})\n    (pole{})\n    ({})",
         strip.n,
         ramps.join(" "),
         sections.concat(),

@@ -107,7 +107,7 @@ impl Answer {
 
 /// What the lane of the list that `name` names gives the bus with its samples.
 fn given(name: &str, samples: &str) -> String {
-    format!("given ({name} .setup) ({samples})")
+    format!("given {name}.setup ({samples})")
 }
 
 /// The lane's samples.
@@ -191,20 +191,20 @@ impl Played {
     fn print_proofs(&self, step: &str, of: &str, given: &str, dry: impl Fn(&[Answer]) -> String) {
         let Self { name, rate, .. } = self;
         let told = self.told();
-        let stretch = format!("Stretch ({step} (rateOf {rate}))");
-        let fresh = format!("(at 0 (freshLane (rateOf {rate}) ({name} .setup) ({name} .lists)))");
+        let stretch = format!("Stretch ({step} (rate_of {rate}))");
+        let fresh = format!("(at 0 (fresh_lane (rate_of {rate}) {name}.setup {name}.lists))");
         println!("\n-- {name}");
         for (k, Told { answers, lane }) in told.iter().enumerate() {
             let next = k + 1;
-            println!("abbrev {name}-lane{next} : At LaneMachine\n{name}-lane{next} =\n    {lane}\n");
-            println!("abbrev {name}-dry{k} : List {given}\n{name}-dry{k} = {}\n", dry(answers));
-            let from = if k == 0 { fresh.clone() } else { format!("{name}-lane{k}") };
-            println!("{name}-stretch{k} : {stretch} {from} {name}{k} {name}-lane{next} {name}-dry{k}");
-            println!("unfolding computed\n{name}-stretch{k} = record {{ rolls = refl }}\n");
+            println!("abbrev {name}_lane{next} : At LaneMachine\n{name}_lane{next} =\n    {lane}\n");
+            println!("abbrev {name}_dry{k} : List {given}\n{name}_dry{k} = {}\n", dry(answers));
+            let from = if k == 0 { fresh.clone() } else { format!("{name}_lane{k}") };
+            println!("{name}_stretch{k} : {stretch} {from} {name}{k} {name}_lane{next} {name}_dry{k}");
+            println!("unfolding computed\n{name}_stretch{k} = record {{ rolls = refl }}\n");
         }
-        println!("abbrev pub {name}-dry : List {given}\n{name}-dry = {}\n", self.joined("-dry", " ++ "));
-        println!("pub {name}-lane : {stretch} {fresh} ({name} .{of}) {name}-lane{} {name}-dry", told.len());
-        println!("{name}-lane = {}", self.joined("-stretch", " & "));
+        println!("abbrev pub {name}_dry : List {given}\n{name}_dry = {}\n", self.joined("_dry", " ++ "));
+        println!("pub {name}_lane : {stretch} {fresh} {name}.{of} {name}_lane{} {name}_dry", told.len());
+        println!("{name}_lane = {}", self.joined("_stretch", " & "));
     }
 }
 
@@ -316,24 +316,23 @@ fn cd(rng: &mut Rng) -> Played {
 }
 
 const LISTS: &str = "-- Lists of calls and of samples, and what the Rust gave for them. Made by harness/vectors: no line here was written by hand.
-use mathlib.Core.Bool.{true, false}
-use mathlib.Core.List.{List, [], _∷_, _++_}
-use Rattle·automation.specs.declared.Tone.the-variants.{Fixed, Graded}
-use Rattle·oscillators.specs.declared.Pad.the-variants.{Without, Swell}
-use Rattle·strip.specs.Machine.{Event, latch}
-use Rattle·strip.specs.Promise.{Call, run, move, ask, ran, moved, rests, declined}
-use Rattle·played·specs.specs.Played.{Played, Sounded, double, single, room, counts, sampled}";
+use Rattle.std.specs.Prelude.{true, false, List, [], ◌∷◌, ◌++◌}
+use Rattle.automation.specs.declared.Tone.TheVariants.{Fixed, Graded}
+use Rattle.oscillators.specs.declared.Pad.TheVariants.{Without, Swell}
+use Rattle.strip.specs.Machine.{Event, latch}
+use Rattle.strip.specs.Promise.{Call, run, move, ask, ran, moved, rests, declined}
+use Rattle.played.specs.Played.{Played, Sounded, double, single, room, counts, sampled}";
 
 const STRETCHES: &str = "-- What the Rust's lane gave in each stretch of a list and where it then stood, and that antt computes the same of the definition. Made by harness/vectors: no line here was written by hand. Assumes nothing.
 use mathlib.Core.Path.{refl}
 use mathlib.Core.Bool.{true, false}
-use mathlib.Core.List.{List, [], _∷_, _++_}
-use Rattle·rate.specs.Rate.{rateOf}
-use Rattle·strip.specs.Machine.{LaneMachine, Sent, freshLane}
-use Rattle·played·specs.specs.Played.{double, given}
-use Rattle·played·proofs.proofs.Apart.{Stretch, _&_, At, at, Dry, sounds, moves, asks, refuses, laneFed, laneCall}
-use Rattle·played·proofs.proofs.Computed.{computed}
-use Rattle·played·proofs.proofs.Written.{line, section, pole, lane}";
+use mathlib.Core.List.{List, [], ◌∷◌, ◌++◌}
+use Rattle.rate.specs.Rate.{rate_of}
+use Rattle.strip.specs.Machine.{LaneMachine, Sent, fresh_lane}
+use Rattle.played.specs.Played.{double, given}
+use Rattle.played.proofs.Apart.{Stretch, ◌&◌, At, at, Dry, sounds, moves, asks, refuses, lane_fed, lane_call}
+use Rattle.played.proofs.Computed.{computed}
+use Rattle.played.proofs.Written.{line, section, pole, lane}";
 
 fn main() {
     let mut rng = Rng::new(7);
@@ -349,9 +348,9 @@ fn main() {
         }
         Some("stretches") => {
             println!("{STRETCHES}");
-            println!("use Rattle·played·specs.specs.Lists.{{{}, {}}}", everything.names(), cd.names());
-            everything.print_proofs("laneCall", "calls", "Dry", |answers| list(answers, |a| a.dry(everything.name)));
-            cd.print_proofs("laneFed", "events", "Sent", |answers| given(cd.name, &dry(answers)));
+            println!("use Rattle.played.specs.Lists.{{{}, {}}}", everything.names(), cd.names());
+            everything.print_proofs("lane_call", "calls", "Dry", |answers| list(answers, |a| a.dry(everything.name)));
+            cd.print_proofs("lane_fed", "events", "Sent", |answers| given(cd.name, &dry(answers)));
         }
         _ => panic!("vectors_machine lists, or vectors_machine stretches"),
     }
