@@ -1,5 +1,5 @@
 -- A step: what its calls are asked, and what they make together. Assumes nothing.
-use Rattle.std.proofs.Common.{◌≡◌, ℕ, ◌+◌, ◌-◌, ◌*◌, ◌%◌, ◌<◌, ◌≤◌, List, length, get_or, set, sym, refl, ◌∙◌, subst, arith, length-set}
+use Rattle.std.proofs.Common.{◌≡◌, ℕ, ◌+◌, ◌-◌, ◌*◌, ◌%◌, ◌<◌, ◌≤◌, T, List, length, get_or, set, sym, refl, ◌∙◌, subst, arith, length-set}
 use lib.Ieee.{Float, nan}
 use Rattle.casts.specs.Arithmetic.{◌⊗◌}
 use Rattle.casts.specs.Least.{min_f}
@@ -11,7 +11,8 @@ use Rattle.master.specs.declared.Heard.{Heard}
 use Rattle.master.specs.Ceiling.{need_of, multiplied, delivered}
 use Rattle.master.specs.Kept.{CeilingIn, places_of, needs_after, numbers_after, head_after, len_after, released_after, step_place, late_place, late_at, gave, multiplied_step_on, ceiling_step_on}
 use Rattle.master.proofs.Bound.{Gain}
-use Rattle.master.proofs.Ready.{Ready}
+use Rattle.master.specs.WellFormed.{well_formed, Sized}
+use Rattle.master.proofs.Ready.{Ready, ready_of}
 use Rattle.master.proofs.Stays.{need_small, head_lt, step_small, oldest_le, count_le, step_place_lem, late_place_lem}
 
 -- after `enqueue`
@@ -22,6 +23,11 @@ pub record Entered (r : CeilingRate) (n : ℕ) (k : CeilingIn) (need : Float) (h
   pub len_is : len ≡ len_after r n k need
   pub samples_are : samples ≡ needs_after r k need
   pub counts_are : counts ≡ numbers_after r n k need
+
+pub entered : (r : CeilingRate) (n : ℕ) (k : CeilingIn) (need : Float) (head len : ℕ) (samples : List Float) (counts : List ℕ) → Usable r → Sized r k.samples k.counts → T (well_formed r k)
+    → head ≡ head_after r n k need → len ≡ len_after r n k need → samples ≡ needs_after r k need → counts ≡ numbers_after r n k need → Entered r n k need head len samples counts
+entered r n k need head len samples counts usable sized formed e-head e-len e-samples e-counts =
+    record { usable = usable; ready = ready_of r k sized formed; head_is = e-head; len_is = e-len; samples_are = e-samples; counts_are = e-counts }
 
 module _ (r : CeilingRate) (n : ℕ) (k : CeilingIn) (f : Frame) (need : Float) (need_is : need ≡ need_of r f) (head len : ℕ) (samples : List Float) (counts : List ℕ)
     (e : Entered r n k need head len samples counts) where

@@ -1,0 +1,12 @@
+use Rattle.std.proofs.Common.{◌-◌, length, arith, length-set, rules}
+use Rattle.master.specs.Kept.{ceiling_on, gave}
+use Rattle.master.proofs.Ready.{ready_of, of_ready}
+use Rattle.master.proofs.Blocks.{Running, block_start, block_turn, block_done}
+use Rattle.master.proofs.block.Given as goal
+
+abbrev pub invariant-loop-i : goal.invariant-loop-i
+invariant-loop-i l =
+    Running l.rate l.n (ceiling_on l.initial.c l.initial.samples l.initial.counts) l.left l.right (ceiling_on l.c l.samples l.counts) l.frames l.gains l.i
+
+abbrev pub decreases-loop-i : goal.decreases-loop-i
+decreases-loop-i l = length l.left - l.i

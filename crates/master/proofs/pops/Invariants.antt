@@ -1,0 +1,11 @@
+use Rattle.std.proofs.Common.{◌≡◌, ℕ, ◌+◌, ◌-◌, ◌%◌, ◌≤◌, true, false, get_or, sym, refl, ap, ◌∙◌, arith, rules}
+use lib.Ieee.{nan, le}
+use Rattle.master.specs.Kept.{pop_len}
+use Rattle.master.proofs.Laws.{down_one, down_stop, down_none}
+use Rattle.master.proofs.pops.Given as goal
+
+abbrev pub invariant-loop-k : goal.invariant-loop-k
+invariant-loop-k l = (l.k ≤ l.len) × (pop_len le l.places l.head (λ i. get_or l.samples i nan) l.need l.k ≡ pop_len le l.places l.head (λ i. get_or l.samples i nan) l.need l.len)
+
+abbrev pub decreases-loop-k : goal.decreases-loop-k
+decreases-loop-k l = l.k
