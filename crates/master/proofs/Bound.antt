@@ -2,7 +2,7 @@
 -- of their windows; of any past each is at most 2 ^ 40. Assumes nothing.
 use Rattle.std.proofs.Common.{◌≡◌, ℕ, zero, suc, ◌+◌, ◌*◌, ◌<◌, ◌≤◌, Bool, true, false, cond, not, T, eqb, ltb, ◌⊎◌, List, [], ◌∷◌, map, length, get_or, take, pos, sym, refl, ap, ◌∙◌, subst, inl, inr, zero-le, le_refl, le_of_suc-le-suc, not-suc-le-zero, zero-lt-suc, suc-mul, mul-pos, zero-mul, mul-one, arith, eqb→eq, ltb→lt, get_or-take, pow_pos}
 use lib.ListN.{get_or-map}
-use lib.Ieee.{Float, nan, inf, fin, binary64, up, down, below, round, mul, div, lt, le, is_nan, of_bits}
+use lib.Ieee.{Float, nan, inf, fin, binary64, up, down, round, mul, div, lt, le, is_nan, of_bits}
 use lib.Ieee.Fits.{down_pos}
 use lib.Ieee.Order.{round_mono}
 use lib.Ieee.Scale.{round_same}

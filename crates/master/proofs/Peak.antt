@@ -1,7 +1,7 @@
 -- A frame's peak and need, by exact sizes: neither side's size is above the peak, and need times peak is above the limit by at most one part in 2 ^ 53. Assumes nothing.
 use Rattle.std.proofs.Common.{◌≡◌, ℕ, suc, ◌+◌, ◌*◌, ◌^◌, ◌<◌, ◌≤◌, Bool, true, false, cond, not, ◌||◌, T, ltb, ℤ, sym, refl, ap, subst, zero-le, le_trans, le_of_eq, lt_of_le_of_lt, mul_assoc, mul_comm, mul-le-mul, mul-le-mul_left, mul-pos, one-mul, mul-one, mul_left_comm, arith, lit≤, ltb→lt, nltb→le, pow_pos}
 use native.Mathlib.Nat.{le-suc}
-use lib.Ieee.{Float, nan, inf, fin, binary64, low, up, down, size, round, neg, lt, le, is_nan, fits, of_bits}
+use lib.Ieee.{Float, nan, inf, fin, binary64, low, up, down, round, neg, lt, le, is_nan, fits, of_bits}
 use lib.Ieee.Fits.{up_pos, down_pos, round-fits}
 use lib.Ieee.Scale.{finite, round_under, normal_of_fraction}
 use lib.Ieee.Positive.{num, den, first_pos}

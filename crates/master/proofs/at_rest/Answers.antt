@@ -1,7 +1,6 @@
 -- `master::at_rest` meets its contract. Assumes nothing.
 use native.Mathlib.Nat.{add-sub_cancel_left}
 use Rattle.master.specs.Kept.{ceiling_at_rest_on}
-use Rattle.std.proofs.Common.{rules}
 use Rattle.master.proofs.at_rest.Goals as goal
 
 pub returns : goal.returns

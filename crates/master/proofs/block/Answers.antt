@@ -1,8 +1,8 @@
 -- `master::block` meets its contract, by the laws of `Blocks`. Assumes nothing.
-use Rattle.std.proofs.Common.{◌-◌, length, arith, length-set, rules}
+use Rattle.std.proofs.Common.{arith, length-set}
 use Rattle.master.specs.Kept.{ceiling_on, gave}
 use Rattle.master.proofs.Ready.{ready_of, of_ready}
-use Rattle.master.proofs.Blocks.{Running, block_start, block_turn, block_done}
+use Rattle.master.proofs.Blocks.{block_start, block_turn, block_done}
 use Rattle.master.proofs.block.Goals as goal
 
 pub loop-i-init : goal.loop-i-init

@@ -1,7 +1,6 @@
-use Rattle.std.proofs.Common.{◌-◌, length, arith, length-set, rules}
-use Rattle.master.specs.Kept.{ceiling_on, gave}
-use Rattle.master.proofs.Ready.{ready_of, of_ready}
-use Rattle.master.proofs.Blocks.{Running, block_start, block_turn, block_done}
+use Rattle.std.proofs.Common.{◌-◌, length}
+use Rattle.master.specs.Kept.{ceiling_on}
+use Rattle.master.proofs.Blocks.{Running}
 use Rattle.master.proofs.block.Given as goal
 
 abbrev pub invariant-loop-i : goal.invariant-loop-i

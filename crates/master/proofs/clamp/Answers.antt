@@ -1,5 +1,4 @@
 use Rattle.master.proofs.Laws.{clamp_low, clamp_high, clamp_else}
-use Rattle.std.proofs.Common.{rules}
 use Rattle.master.proofs.clamp.Goals as goal
 
 pub returns-then-y-limit : goal.returns-then-y-limit

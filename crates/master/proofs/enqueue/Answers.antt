@@ -1,5 +1,5 @@
 -- `master::enqueue` meets its contract. Assumes nothing.
-use Rattle.std.proofs.Common.{arith, length-set, rules}
+use Rattle.std.proofs.Common.{arith, length-set}
 use Rattle.master.specs.Kept.{ceiling_on}
 use Rattle.master.proofs.Queueing.{head_went, head_stayed}
 use Rattle.master.proofs.enqueue.Goals as goal

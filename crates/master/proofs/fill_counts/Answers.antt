@@ -1,5 +1,5 @@
 -- `master::fill_counts` meets its contract: after k turns k places are filled. Assumes nothing.
-use Rattle.std.proofs.Common.{◌≡◌, ℕ, ◌-◌, ◌≤◌, length, refl, ap, ◌∙◌, arith, length-set, rules}
+use Rattle.std.proofs.Common.{◌≡◌, ℕ, refl, ap, ◌∙◌, arith, length-set}
 use Rattle.master.specs.Kept.{filled}
 use Rattle.master.proofs.Opening.{filled_none, filled_more}
 use Rattle.master.proofs.fill_counts.Goals as goal

@@ -1,6 +1,5 @@
-use Rattle.std.proofs.Common.{◌≡◌, ℕ, ◌-◌, ◌≤◌, length, refl, ap, ◌∙◌, arith, length-set, rules}
+use Rattle.std.proofs.Common.{◌≡◌, ◌-◌, ◌≤◌, length}
 use Rattle.master.specs.Kept.{filled}
-use Rattle.master.proofs.Opening.{filled_none, filled_more}
 use Rattle.master.proofs.fill_samples.Given as goal
 
 abbrev pub invariant-loop-k : goal.invariant-loop-k

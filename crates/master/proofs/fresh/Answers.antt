@@ -1,5 +1,5 @@
 -- `master::fresh` meets its contract. Assumes nothing.
-use Rattle.std.proofs.Common.{refl, rules}
+use Rattle.std.proofs.Common.{refl}
 use Rattle.master.specs.Kept.{ceiling_fresh}
 use Rattle.master.proofs.fresh.Goals as goal
 

@@ -1,5 +1,4 @@
 use Rattle.master.proofs.Laws.{gain_is}
-use Rattle.std.proofs.Common.{rules}
 use Rattle.master.proofs.gain.Goals as goal
 
 pub returns : goal.returns

@@ -1,5 +1,4 @@
 -- `master::head_goes` meets its contract. Assumes nothing.
-use Rattle.std.proofs.Common.{rules}
 use Rattle.master.proofs.Laws.{goes_full, goes_later, goes_old}
 use Rattle.master.proofs.head_goes.Goals as goal
 

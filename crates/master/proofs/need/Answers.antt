@@ -1,5 +1,4 @@
 use Rattle.master.proofs.Laws.{need_over, need_else}
-use Rattle.std.proofs.Common.{rules}
 use Rattle.master.proofs.need.Goals as goal
 
 pub returns-then-limit-peak : goal.returns-then-limit-peak

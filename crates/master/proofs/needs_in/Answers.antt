@@ -1,5 +1,5 @@
 -- `master::needs_in` meets its contract. Assumes nothing.
-use Rattle.std.proofs.Common.{◌+◌, ◌-◌, sym, ◌∙◌, arith, length-take-le, rules}
+use Rattle.std.proofs.Common.{◌+◌, ◌-◌, sym, ◌∙◌, arith, length-take-le}
 use Rattle.master.proofs.Checking.{needs_low, needs_around}
 use Rattle.master.proofs.needs_in.Goals as goal
 

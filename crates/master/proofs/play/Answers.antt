@@ -1,5 +1,4 @@
 use Rattle.master.proofs.Laws.{play_is}
-use Rattle.std.proofs.Common.{rules}
 use Rattle.master.proofs.play.Goals as goal
 
 pub returns : goal.returns

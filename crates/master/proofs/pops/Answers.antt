@@ -1,7 +1,6 @@
 -- `master::pops` meets its contract: what is left of k is what is left of len. Assumes nothing.
-use Rattle.std.proofs.Common.{◌≡◌, ℕ, ◌+◌, ◌-◌, ◌%◌, ◌≤◌, true, false, get_or, sym, refl, ap, ◌∙◌, arith, rules}
+use Rattle.std.proofs.Common.{◌≡◌, ℕ, ◌+◌, ◌-◌, ◌%◌, true, false, get_or, sym, refl, ap, ◌∙◌, arith}
 use lib.Ieee.{nan, le}
-use Rattle.master.specs.Kept.{pop_len}
 use Rattle.master.proofs.Laws.{down_one, down_stop, down_none}
 use Rattle.master.proofs.pops.Goals as goal
 

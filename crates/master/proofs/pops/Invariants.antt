@@ -1,7 +1,6 @@
-use Rattle.std.proofs.Common.{◌≡◌, ℕ, ◌+◌, ◌-◌, ◌%◌, ◌≤◌, true, false, get_or, sym, refl, ap, ◌∙◌, arith, rules}
+use Rattle.std.proofs.Common.{◌≡◌, ◌≤◌, get_or}
 use lib.Ieee.{nan, le}
 use Rattle.master.specs.Kept.{pop_len}
-use Rattle.master.proofs.Laws.{down_one, down_stop, down_none}
 use Rattle.master.proofs.pops.Given as goal
 
 abbrev pub invariant-loop-k : goal.invariant-loop-k

@@ -2,7 +2,6 @@
 use Rattle.master.specs.Kept.{ceiling_on}
 use Rattle.master.proofs.Ready.{ready_of}
 use Rattle.master.proofs.Stepping.{entered, head_in, renewing, delaying, together}
-use Rattle.std.proofs.Common.{rules}
 use Rattle.master.proofs.step.Goals as goal
 
 pub enqueue-q-requires : goal.enqueue-q-requires

@@ -1,6 +1,5 @@
 -- `master::steps` meets its contract: 2^40 stands in the code by its bit pattern. Assumes nothing.
 use lib.Ieee.{of_bits}
-use Rattle.std.proofs.Common.{rules}
 use Rattle.casts.specs.Step.{step_of}
 use Rattle.master.proofs.steps.Goals as goal
 

@@ -1,6 +1,5 @@
 -- `master::steps_in` meets its contract. Assumes nothing.
-use Rattle.std.proofs.Common.{◌≡◌, ◌-◌, ◌*◌, ◌≤◌, eqb, sym, arith, rules}
-use Rattle.master.specs.WellFormed.{steps_in}
+use Rattle.std.proofs.Common.{sym, arith}
 use Rattle.master.proofs.Checking.{every_none, steps_more, steps_all}
 use Rattle.master.proofs.steps_in.Goals as goal
 

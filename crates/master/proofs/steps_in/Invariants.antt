@@ -1,6 +1,5 @@
-use Rattle.std.proofs.Common.{◌≡◌, ◌-◌, ◌*◌, ◌≤◌, eqb, sym, arith, rules}
+use Rattle.std.proofs.Common.{◌≡◌, ◌-◌, ◌*◌, ◌≤◌, eqb}
 use Rattle.master.specs.WellFormed.{steps_in}
-use Rattle.master.proofs.Checking.{every_none, steps_more, steps_all}
 use Rattle.master.proofs.steps_in.Given as goal
 
 abbrev pub invariant-loop-k : goal.invariant-loop-k

@@ -1,6 +1,5 @@
 -- `master::total` meets its contract. Assumes nothing.
-use Rattle.std.proofs.Common.{◌≡◌, ◌-◌, ◌≤◌, arith, rules}
-use Rattle.master.specs.WellFormed.{sum_at}
+use Rattle.std.proofs.Common.{arith}
 use Rattle.master.proofs.Checking.{sum_none, sum_more, sum_all, sum_fits}
 use Rattle.master.proofs.total.Goals as goal
 

@@ -1,6 +1,5 @@
-use Rattle.std.proofs.Common.{◌≡◌, ◌-◌, ◌≤◌, arith, rules}
+use Rattle.std.proofs.Common.{◌≡◌, ◌-◌, ◌≤◌}
 use Rattle.master.specs.WellFormed.{sum_at}
-use Rattle.master.proofs.Checking.{sum_none, sum_more, sum_all, sum_fits}
 use Rattle.master.proofs.total.Given as goal
 
 abbrev pub invariant-loop-k : goal.invariant-loop-k

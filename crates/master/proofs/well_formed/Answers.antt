@@ -1,5 +1,5 @@
 -- `master::well_formed` meets its contract: each return by the tests that led there. Assumes nothing.
-use Rattle.std.proofs.Common.{T, sym, ◌∙◌, subst, arith, rules}
+use Rattle.std.proofs.Common.{T, sym, ◌∙◌, subst, arith}
 use Rattle.master.specs.Kept.{ceiling_on}
 use Rattle.master.proofs.Checking.{tests_head, tests_len, tests_released, tests_needs, tests_steps, tests_count}
 use Rattle.master.proofs.well_formed.Goals as goal
