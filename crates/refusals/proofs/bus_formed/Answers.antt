@@ -1,3 +1,4 @@
+-- `bus_formed` meets its contract. Assumes nothing.
 use mathlib.Core.Path.{◌∙◌}
 use Rattle.refusals.proofs.Checks.{from_on}
 use Rattle.strip.specs.Kept.{bus_formed}

@@ -1,3 +1,4 @@
+-- `first` meets its contract. Assumes nothing.
 use Rattle.rate.proofs.Rates.{usable_44100}
 use Rattle.strip.specs.Calls.{first_of, first}
 use Rattle.strip.proofs.Refusals.{sized_is}

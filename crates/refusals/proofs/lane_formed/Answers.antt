@@ -1,3 +1,4 @@
+-- `lane_formed` meets its contract. Assumes nothing.
 use mathlib.Core.Path.{sym, ◌∙◌}
 use Rattle.strip.specs.Kept.{lane_formed}
 use Rattle.refusals.proofs.lane_formed.Goals as goal

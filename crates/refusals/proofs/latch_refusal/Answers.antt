@@ -1,3 +1,4 @@
+-- `latch_refusal` meets its contract. Assumes nothing.
 use Rattle.strip.specs.Calls.{first_of}
 use mathlib.Core.Path.{sym, ◌∙◌}
 use Rattle.refusals.proofs.latch_refusal.Goals as goal

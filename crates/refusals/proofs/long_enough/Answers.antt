@@ -1,3 +1,4 @@
+-- `long_enough` meets its contract. Assumes nothing.
 use Rattle.strip.specs.Refusals.{long_enough}
 use borrow.Author.Tests.{le-leb, lt-leb}
 use Rattle.refusals.proofs.long_enough.Goals as goal

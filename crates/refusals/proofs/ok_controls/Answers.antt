@@ -1,3 +1,4 @@
+-- `ok_controls` meets its contract. Assumes nothing.
 use mathlib.Core.Path.{sym, ◌∙◌}
 use Rattle.strip.specs.Refusals.{ok_controls}
 use borrow.Author.Tests.{le-leb, lt-leb}

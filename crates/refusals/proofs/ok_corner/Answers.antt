@@ -1,3 +1,4 @@
+-- `ok_corner` meets its contract. Assumes nothing.
 use Rattle.ranges.specs.Ranges.{in_range}
 use Rattle.strip.specs.Refusals.{ok_corner}
 use mathlib.Core.Path.{ap, ◌∙◌}

@@ -1,3 +1,4 @@
+-- `ok_drive` meets its contract. Assumes nothing.
 use Rattle.strip.specs.Refusals.{ok_drive}
 use lib.Ieee.{of_bits, of_int}
 use Rattle.refusals.proofs.ok_drive.Goals as goal

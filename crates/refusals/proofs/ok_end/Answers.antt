@@ -1,3 +1,4 @@
+-- `ok_end` meets its contract. Assumes nothing.
 use Rattle.refusals.proofs.Checks.{beyond, up_to}
 use Rattle.refusals.proofs.ok_end.Goals as goal
 

@@ -1,3 +1,4 @@
+-- `ok_gain` meets its contract. Assumes nothing.
 use Rattle.strip.specs.Refusals.{ok_gain}
 use lib.Ieee.{of_bits, of_int}
 use Rattle.refusals.proofs.ok_gain.Goals as goal

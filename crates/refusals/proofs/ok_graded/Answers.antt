@@ -1,3 +1,4 @@
+-- `ok_graded` meets its contract. Assumes nothing.
 use mathlib.Core.Path.{sym, ◌∙◌}
 use Rattle.strip.specs.Refusals.{ok_tone}
 use Rattle.refusals.proofs.ok_graded.Goals as goal

@@ -1,3 +1,4 @@
+-- `ok_hz` meets its contract. Assumes nothing.
 use Rattle.ranges.specs.Ranges.{in_range}
 use mathlib.Core.Path.{ap, ◌∙◌}
 use lib.Ieee.{of_bits, of_int}

@@ -1,3 +1,4 @@
+-- `ok_kicks` meets its contract. Assumes nothing.
 use Rattle.strip.specs.Refusals.{ok_kicks}
 use borrow.Author.Tests.{le-leb, lt-leb}
 use Rattle.refusals.proofs.ok_kicks.Goals as goal

@@ -1,3 +1,4 @@
+-- `ok_lists` meets its contract. Assumes nothing.
 use mathlib.Core.Path.{sym, ◌∙◌}
 use Rattle.strip.specs.Refusals.{ok_lists}
 use Rattle.refusals.proofs.ok_lists.Goals as goal

@@ -1,3 +1,4 @@
+-- `ok_outputs` meets its contract. Assumes nothing.
 use Rattle.refusals.proofs.Checks.{unlike, alike}
 use native.Mathlib.Omega.{arith}
 use Rattle.refusals.proofs.ok_outputs.Goals as goal

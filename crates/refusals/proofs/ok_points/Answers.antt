@@ -1,3 +1,4 @@
+-- `ok_points` meets its contract. Assumes nothing.
 use mathlib.Core.Path.{sym, ◌∙◌}
 use Rattle.strip.specs.Refusals.{ok_points}
 use borrow.Author.Tests.{le-leb, lt-leb, eq-eqb, ne_eqb}

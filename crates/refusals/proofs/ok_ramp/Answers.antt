@@ -1,3 +1,4 @@
+-- `ok_ramp` meets its contract. Assumes nothing.
 use Rattle.strip.specs.Refusals.{ok_ramp}
 use borrow.Author.Tests.{le-leb, lt-leb}
 use Rattle.refusals.proofs.ok_ramp.Goals as goal

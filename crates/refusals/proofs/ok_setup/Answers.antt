@@ -1,3 +1,4 @@
+-- `ok_setup` meets its contract. Assumes nothing.
 use mathlib.Core.Path.{sym, ◌∙◌}
 use Rattle.strip.specs.Refusals.{ok_setup}
 use Rattle.refusals.proofs.ok_setup.Goals as goal

@@ -1,3 +1,4 @@
+-- `ok_swell` meets its contract. Assumes nothing.
 use mathlib.Core.Path.{sym, ◌∙◌}
 use Rattle.strip.specs.Refusals.{ok_pad}
 use Rattle.refusals.proofs.ok_swell.Goals as goal

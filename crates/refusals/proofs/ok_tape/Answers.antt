@@ -1,3 +1,4 @@
+-- `ok_tape` meets its contract. Assumes nothing.
 use mathlib.Core.Path.{sym, ◌∙◌}
 use Rattle.strip.specs.Refusals.{ok_tape}
 use Rattle.refusals.proofs.ok_tape.Goals as goal

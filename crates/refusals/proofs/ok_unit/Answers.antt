@@ -1,3 +1,4 @@
+-- `ok_unit` meets its contract. Assumes nothing.
 use Rattle.strip.specs.Refusals.{ok_unit}
 use Rattle.refusals.proofs.ok_unit.Goals as goal
 

@@ -1,3 +1,4 @@
+-- `open_refusal` meets its contract. Assumes nothing.
 use Rattle.strip.specs.Calls.{first_of}
 use mathlib.Core.Path.{sym, ◌∙◌}
 use Rattle.refusals.proofs.open_refusal.Goals as goal

@@ -1,0 +1,15 @@
+use mathlib.Core.Path.{ap, ◌∙◌}
+use mathlib.Core.List.{◌++◌}
+use lib.ListN.{drop}
+use Rattle.stage.specs.Stage.{over}
+use Rattle.duck.specs.Cursors.{DuckIn, duck_counts}
+use Rattle.opening.proofs.Parts.{laid_behind}
+use borrow.Author.Rules.{rules}
+use Rattle.opening.proofs.lay_counts.Goals as goal
+
+pub returns : goal.returns
+returns c =
+    let s = c.args in
+    let z = c.new in
+    laid_behind duck_counts s.counts-1.now z.new.1.0 (search rules) s.positions.now _ c.lay_positions.ensures
+    ∙ ap (λ (d : DuckIn). d.part ++ over s.positions.now (drop duck_counts s.counts-1.now)) z.ensures

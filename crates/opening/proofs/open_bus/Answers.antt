@@ -1,0 +1,21 @@
+use native.Mathlib.Omega.{arith}
+use mathlib.Core.Path.{ap, ◌∙◌}
+use lib.ListN.{length, length-replicate}
+use Rattle.casts.specs.Arithmetic.{nought}
+use Rattle.plate.specs.Plate.{plate_on, fresh_on}
+use Rattle.strip.specs.Kept.{bus_of, opened_bus}
+use Rattle.stage.proofs.Parts.{behind_lent, behind_put}
+use Rattle.opening.proofs.Parts.{filled_to}
+use borrow.Author.Rules.{rules}
+use Rattle.opening.proofs.open_bus.Goals as goal
+
+pub returns : goal.returns
+unfolding opened_bus
+returns c =
+    let s = c in
+    let l = s.args.samples-1.now in
+    let p = c.plate_samples-p in
+    let z = c.clear in
+    let e = filled_to p.result nought l z.new-plate.0 (omega (arith, s.requires)) z.ensures in
+    let n = ap length e ∙ length-replicate p.result nought in
+    rw (behind_put p.result l z.new-plate.0 n, c.new-plate.ensures) (ap (bus_of (plate_on (fresh_on s.args.rate.plate) z.new-plate.0)) c.fresh-ceiling.ensures ∙ rw (behind_lent p.result l z.new-plate.0 n, e, p.ensures))

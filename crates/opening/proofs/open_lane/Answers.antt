@@ -1,0 +1,11 @@
+use Rattle.strip.specs.Kept.{opened_lane}
+use borrow.Author.Rules.{rules}
+use Rattle.opening.proofs.open_lane.Goals as goal
+
+pub shape_of-samples : goal.shape_of-samples
+shape_of-samples c = c.samples-1.given
+
+pub returns : goal.returns
+unfolding opened_lane
+returns c =
+    rw (c.fresh-tape.ensures, c.held-rain.ensures, c.widen-2.ensures, c.held-daylight.ensures, c.widen.ensures, c.lay_counts.ensures, c.lay_samples.ensures)
