@@ -11,5 +11,5 @@ pub returns : goal.returns
 returns c =
     let s = c.args in
     let z = c.new in
-    laid_behind duck_counts s.counts-1.now z.new.1.0 (search rules) s.positions.now _ c.lay_positions.ensures
-    ∙ ap (λ (d : DuckIn). d.part ++ over s.positions.now (drop duck_counts s.counts-1.now)) z.ensures
+    laid_behind duck_counts s.counts.now z.new.counts (search rules) s.positions.now _ c.lay_positions.ensures
+    ∙ ap (λ (d : DuckIn). d.part ++ over s.positions.now (drop duck_counts s.counts.now)) z.ensures

@@ -9,5 +9,5 @@ returns c =
     let s = c.args in
     let w = c.warp_samples-w in
     let z = c.clear in
-    let e = filled_to w.result nought s.samples-1.now z.new.0 (search rules) z.ensures in
-    laid_behind w.result s.samples-1.now z.new.0 (search rules) s.values.now _ c.lay_values.ensures ∙ rw (e, w.ensures)
+    let e = filled_to w.result nought s.samples.now z.new.part (search rules) z.ensures in
+    laid_behind w.result s.samples.now z.new.part (search rules) s.values.now _ c.lay_values.ensures ∙ rw (e, w.ensures)

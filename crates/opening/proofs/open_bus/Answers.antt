@@ -13,9 +13,9 @@ pub returns : goal.returns
 unfolding opened_bus
 returns c =
     let s = c in
-    let l = s.args.samples-1.now in
+    let l = s.args.samples.now in
     let p = c.plate_samples-p in
     let z = c.clear in
-    let e = filled_to p.result nought l z.new-plate.0 (omega (arith, s.requires)) z.ensures in
+    let e = filled_to p.result nought l z.new.part (omega (arith, s.requires.samples_len)) z.ensures in
     let n = ap length e ∙ length-replicate p.result nought in
-    rw (behind_put p.result l z.new-plate.0 n, c.new-plate.ensures) (ap (bus_of (plate_on (fresh_on s.args.rate.plate) z.new-plate.0)) c.fresh-ceiling.ensures ∙ rw (behind_lent p.result l z.new-plate.0 n, e, p.ensures))
+    rw (behind_put p.result l z.new.part n, c.new-plate.ensures) (ap (bus_of (plate_on (fresh_on s.args.rate.plate) z.new.part)) c.fresh-ceiling.ensures ∙ rw (behind_lent p.result l z.new.part n, e, p.ensures))

@@ -2,9 +2,6 @@ use Rattle.strip.specs.Kept.{opened_lane}
 use borrow.Author.Rules.{rules}
 use Rattle.opening.proofs.open_lane.Goals as goal
 
-pub shape_of-samples : goal.shape_of-samples
-shape_of-samples c = c.samples-1.given
-
 pub returns : goal.returns
 unfolding opened_lane
 returns c =
