@@ -1,12 +1,9 @@
-use borrow.Author.Rules.{rules}
-use mathlib.Core.Path.{◌≡◌, refl, ap, ◌∙◌}
-use mathlib.Core.List.{List, ◌++◌}
-use Prim.Native.Nat.{◌-◌, ◌≤◌, ◌<◌}
-use native.Mathlib.Omega.{arith}
-use lib.ListN.{length, drop, set, replicate, length-set}
-use lib.Ieee.{Float}
+-- `clear` keeps these, and ends. Assumes nothing.
+use mathlib.Core.Path.{◌≡◌}
+use mathlib.Core.List.{◌++◌}
+use Prim.Native.Nat.{◌-◌, ◌≤◌}
+use lib.ListN.{length, drop, replicate}
 use Rattle.casts.specs.Arithmetic.{nought}
-use Rattle.opening.proofs.Parts.{fill_more, fill_done}
 use Rattle.opening.proofs.clear.Given as goal
 
 abbrev pub invariant-loop-k : goal.invariant-loop-k

@@ -1,3 +1,4 @@
+-- `lay_samples` meets its contract. Assumes nothing.
 use mathlib.Core.Path.{◌∙◌}
 use Rattle.casts.specs.Arithmetic.{nought}
 use Rattle.opening.proofs.Parts.{filled_to, laid_behind}

@@ -1,3 +1,4 @@
+-- `open_bus` meets its contract. Assumes nothing.
 use native.Mathlib.Omega.{arith}
 use mathlib.Core.Path.{ap, ◌∙◌}
 use lib.ListN.{length, length-replicate}
@@ -6,7 +7,6 @@ use Rattle.plate.specs.Plate.{plate_on, fresh_on}
 use Rattle.strip.specs.Kept.{bus_of, opened_bus}
 use Rattle.stage.proofs.Parts.{behind_lent, behind_put}
 use Rattle.opening.proofs.Parts.{filled_to}
-use borrow.Author.Rules.{rules}
 use Rattle.opening.proofs.open_bus.Goals as goal
 
 pub returns : goal.returns

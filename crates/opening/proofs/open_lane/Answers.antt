@@ -1,5 +1,5 @@
+-- `open_lane` meets its contract. Assumes nothing.
 use Rattle.strip.specs.Kept.{opened_lane}
-use borrow.Author.Rules.{rules}
 use Rattle.opening.proofs.open_lane.Goals as goal
 
 pub returns : goal.returns

@@ -1,10 +1,10 @@
+-- `open_strip` meets its contract. Assumes nothing.
 use native.Mathlib.Omega.{arith}
 use mathlib.Core.Path.{refl}
 use Prim.Native.Nat.{◌+◌}
 use Rattle.rate.specs.Stores.{lane_counts}
 use Rattle.strip.specs.Kept.{lists_of}
 use Rattle.opening.proofs.Parts.{opened_whole}
-use borrow.Author.Rules.{rules}
 use Rattle.opening.proofs.open_strip.Goals as goal
 
 pub open_lane-lane-requires : goal.open_lane-lane-requires
