@@ -1,0 +1,7 @@
+use Rattle.packing.specs.Packing.{bus_from}
+use borrow.Author.Rules.{rules}
+use Rattle.packing.proofs.bus_from.Goals as goal
+
+pub returns : goal.returns
+unfolding bus_from
+returns c = cc

@@ -1,0 +1,7 @@
+use Rattle.packing.specs.Packing.{equalizer_from}
+use borrow.Author.Rules.{rules}
+use Rattle.packing.proofs.equalizer_from.Goals as goal
+
+pub returns : goal.returns
+unfolding equalizer_from
+returns c = cc

@@ -1,0 +1,7 @@
+use Rattle.packing.specs.Packing.{lane_fits}
+use borrow.Author.Rules.{rules}
+use Rattle.packing.proofs.lane_fits.Goals as goal
+
+pub returns : goal.returns
+unfolding lane_fits
+returns c = cc

@@ -1,0 +1,7 @@
+use Rattle.packing.specs.Packing.{setup_fits}
+use borrow.Author.Rules.{rules}
+use Rattle.packing.proofs.setup_fits.Goals as goal
+
+pub returns : goal.returns
+unfolding setup_fits
+returns c = cc

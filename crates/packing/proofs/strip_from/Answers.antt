@@ -1,0 +1,7 @@
+use Rattle.packing.specs.Packing.{strip_from}
+use borrow.Author.Rules.{rules}
+use Rattle.packing.proofs.strip_from.Goals as goal
+
+pub returns : goal.returns
+unfolding strip_from
+returns c = cc
