@@ -1,0 +1,44 @@
+use native.Mathlib.Omega.{arith}
+use mathlib.Core.Path.{refl, sym, ap, subst⁻¹, ◌∙◌}
+use Prim.Native.Nat.{◌+◌}
+use Rattle.rate.specs.Stores.{lane_counts}
+use Rattle.blocks.specs.Run.{LaneRuns, BusRuns, tuned_of}
+use Rattle.blocks.proofs.Staged.{lane_of_lent, bus_of_lent, block_ended}
+use Rattle.blocks.proofs.block.Goals as goal
+
+pub lane_block-lane-requires : goal.lane_block-lane-requires
+lane_block-lane-requires c =
+    let s = c in
+    let g = s.args in
+    let lent = lane_of_lent g.rate s.requires.rate_usable g.strip g.store.now g.counts.now s.requires.runs c.bus_samples-lane_at.result (c.bus_samples-lane_at.result + c.lane_samples.result) c.bus_counts-counts_at.result (c.bus_counts-counts_at.result + lane_counts) c.bus_samples-lane_at.ensures (omega (arith, c.lane_samples.ensures)) c.bus_counts-counts_at.ensures refl in
+    let p = s.requires in record {
+      rate_usable = p.rate_usable;
+      lane_runs = subst⁻¹ (LaneRuns g.rate) lent p.runs.lane;
+      tape_value = p.tape_value ∙ ap (tuned_of g.rate g.strip.position) (sym lent);
+      piecewise = p.piecewise;
+      sent_len = p.outputs.left;
+    }
+
+pub bus_block-bus-requires : goal.bus_block-bus-requires
+bus_block-bus-requires c =
+    let s = c in
+    let g = s.args in
+    let k = c.lane_block-lane in
+    let lent = bus_of_lent g.rate s.requires.rate_usable g.strip g.store.now g.counts.now s.requires.runs c.bus_samples-lane_at.result (c.bus_samples-lane_at.result + c.lane_samples.result) c.bus_counts-counts_at.result (c.bus_counts-counts_at.result + lane_counts) c.bus_samples-lane_at.ensures (omega (arith, c.lane_samples.ensures)) c.bus_counts-counts_at.ensures refl k.new.samples k.new.counts in
+    let o = s.requires.outputs in
+    let d = k.auto.dry in
+    let e = k.auto.sent in record {
+      rate_usable = s.requires.rate_usable;
+      bus_runs = subst⁻¹ (BusRuns g.rate) lent s.requires.runs.bus;
+      dry_bound = omega (arith, d, s.requires.piecewise.before);
+      outputs = record { left = omega (arith, d, e, o.left); right = omega (arith, d, o.right); frames = omega (arith, d, o.frames); gains = omega (arith, d, o.gains) };
+    }
+
+pub returns : goal.returns
+returns c =
+    let s = c in
+    let g = s.args in
+    let k = c.lane_block-lane in
+    let b = c.bus_block-bus in
+    block_ended g.rate s.requires.rate_usable g.strip g.store.now g.counts.now s.requires.runs c.bus_samples-lane_at.result (c.bus_samples-lane_at.result + c.lane_samples.result) c.bus_counts-counts_at.result (c.bus_counts-counts_at.result + lane_counts) c.bus_samples-lane_at.ensures (omega (arith, c.lane_samples.ensures)) c.bus_counts-counts_at.ensures refl g.drums g.dry.now k.new.samples k.new.counts k.result b.result b.new.samples b.new.counts _
+    b.new.frames b.new.gains k.ensures.counts_after k.ensures.sent_after b.ensures.counts_after b.ensures.frames_after b.ensures.gains_after
