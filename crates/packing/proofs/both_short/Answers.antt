@@ -1,5 +1,4 @@
 use Rattle.packing.specs.Packing.{both_short}
-use borrow.Author.Rules.{rules}
 use Rattle.packing.proofs.both_short.Goals as goal
 
 pub returns : goal.returns

@@ -1,6 +1,5 @@
 use mathlib.Core.Path.{sym, subst}
 use lib.Dec.{T}
-use borrow.Author.Rules.{rules}
 use Rattle.packing.specs.Packing.{is_short}
 use Rattle.packing.proofs.Floats.{short_digits}
 use Rattle.packing.proofs.is_short.Goals as goal

@@ -1,6 +1,5 @@
 use native.Mathlib.Omega.{arith}
 use Rattle.packing.specs.Packing.{lane_from}
-use borrow.Author.Rules.{rules}
 use Rattle.packing.proofs.lane_from.Goals as goal
 
 pub tape_from-tape-requires : goal.tape_from-tape-requires

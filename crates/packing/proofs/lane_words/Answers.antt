@@ -1,5 +1,4 @@
 use Rattle.packing.specs.Packing.{lane_words}
-use borrow.Author.Rules.{rules}
 use Rattle.packing.proofs.lane_words.Goals as goal
 
 pub returns : goal.returns

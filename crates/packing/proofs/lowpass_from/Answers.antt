@@ -1,5 +1,4 @@
 use Rattle.packing.specs.Packing.{lowpass_from}
-use borrow.Author.Rules.{rules}
 use Rattle.packing.proofs.lowpass_from.Goals as goal
 
 pub returns : goal.returns

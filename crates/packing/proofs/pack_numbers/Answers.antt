@@ -1,7 +1,6 @@
 use mathlib.Core.Path.{refl, ◌∙◌}
 use Rattle.laying.proofs.Joined.{lay_behind}
 use Rattle.packing.specs.Packing.{bus_numbers_long, bus_numbers, lane_numbers, packed_numbers}
-use borrow.Author.Rules.{rules}
 use Rattle.packing.proofs.pack_numbers.Goals as goal
 
 pub returns : goal.returns

@@ -2,7 +2,6 @@ use mathlib.Core.Path.{refl, ◌∙◌}
 use mathlib.Core.List.{[], ◌∷◌, ◌++◌}
 use Rattle.laying.proofs.Joined.{lay_behind}
 use Rattle.packing.specs.Packing.{own_words_long, lane_words_at, bus_words, lane_words, packed_words}
-use borrow.Author.Rules.{rules}
 use Rattle.packing.proofs.pack_words.Goals as goal
 
 pub returns : goal.returns

@@ -1,5 +1,4 @@
 use Rattle.packing.specs.Packing.{pad_numbers}
-use borrow.Author.Rules.{rules}
 use Rattle.packing.proofs.pad_numbers.Goals as goal
 
 pub returns-in-Without : goal.returns-in-Without

@@ -1,5 +1,4 @@
 use Rattle.packing.specs.Packing.{plate_from}
-use borrow.Author.Rules.{rules}
 use Rattle.packing.proofs.plate_from.Goals as goal
 
 pub returns : goal.returns

@@ -1,5 +1,4 @@
 use Rattle.packing.specs.Packing.{ramp_from}
-use borrow.Author.Rules.{rules}
 use Rattle.packing.proofs.ramp_from.Goals as goal
 
 pub returns : goal.returns

@@ -1,4 +1,3 @@
-use borrow.Author.Rules.{rules}
 use Rattle.packing.specs.Packing.{roomy}
 use Rattle.packing.proofs.roomy.Goals as goal
 

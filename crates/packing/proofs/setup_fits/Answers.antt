@@ -1,5 +1,4 @@
 use Rattle.packing.specs.Packing.{setup_fits}
-use borrow.Author.Rules.{rules}
 use Rattle.packing.proofs.setup_fits.Goals as goal
 
 pub returns : goal.returns

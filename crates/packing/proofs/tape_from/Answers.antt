@@ -1,5 +1,4 @@
 use Rattle.packing.specs.Packing.{tape_from}
-use borrow.Author.Rules.{rules}
 use Rattle.packing.proofs.tape_from.Goals as goal
 
 pub returns : goal.returns

@@ -1,6 +1,5 @@
 use borrow.Author.Tests.{eq-eqb, ne_eqb}
 use Rattle.packing.specs.Packing.{tone_from}
-use borrow.Author.Rules.{rules}
 use Rattle.packing.proofs.tone_from.Goals as goal
 
 pub returns-then-tag-eq0 : goal.returns-then-tag-eq0

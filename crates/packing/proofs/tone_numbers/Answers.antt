@@ -1,5 +1,4 @@
 use Rattle.packing.specs.Packing.{tone_numbers}
-use borrow.Author.Rules.{rules}
 use Rattle.packing.proofs.tone_numbers.Goals as goal
 
 pub returns-in-Fixed : goal.returns-in-Fixed

@@ -1,7 +1,6 @@
 use mathlib.Core.Path.{sym, ◌∙◌}
 use Rattle.packing.specs.Packing.{unpacked}
 use Rattle.packing.proofs.Read.{room}
-use borrow.Author.Rules.{rules}
 use Rattle.packing.proofs.unpack.Goals as goal
 
 pub returns-then-not-roomy : goal.returns-then-not-roomy

@@ -1,5 +1,4 @@
 use Rattle.packing.specs.Packing.{unpackable}
-use borrow.Author.Rules.{rules}
 use Rattle.packing.proofs.unpackable.Goals as goal
 
 pub returns : goal.returns

@@ -1,5 +1,4 @@
 use Rattle.packing.proofs.Read.{behind}
-use borrow.Author.Rules.{rules}
 use Rattle.packing.proofs.words_from.Goals as goal
 
 pub returns : goal.returns
