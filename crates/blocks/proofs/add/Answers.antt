@@ -1,12 +1,10 @@
-use Prim.Native.Nat.{◌-◌}
 use lib.Ieee.{nan, Float}
-use lib.ListN.{length, get_or}
-use mathlib.Core.Path.{◌≡◌, sym, ap, ◌∙◌}
+use lib.ListN.{get_or}
+use mathlib.Core.Path.{sym, ap, ◌∙◌}
 use Rattle.casts.specs.Arithmetic.{◌⊕◌}
 use Rattle.blocks.proofs.Mixed.{added_length, added_at}
 use Rattle.blocks.specs.Run.{added}
-use Rattle.stage.proofs.Loop.{Wrote, Ahead, wrote_start, wrote_turn, wrote_done, ahead_start, ahead_turn, ahead_read}
-use borrow.Author.Rules.{rules}
+use Rattle.stage.proofs.Loop.{wrote_start, wrote_turn, wrote_done, ahead_start, ahead_turn, ahead_read}
 use Rattle.blocks.proofs.add.Goals as goal
 
 pub loop-i-init : goal.loop-i-init

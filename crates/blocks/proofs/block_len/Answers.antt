@@ -1,6 +1,5 @@
 -- `blocks::block_len` meets its contract. Assumes nothing.
 use native.Mathlib.Omega.{arith}
-use borrow.Author.Rules.{rules}
 use Rattle.blocks.proofs.block_len.Goals as goal
 
 pub returns-then-left-lt-BLOCK : goal.returns-then-left-lt-BLOCK

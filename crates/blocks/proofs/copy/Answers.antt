@@ -1,9 +1,7 @@
-use borrow.Author.Rules.{rules}
-use mathlib.Core.Path.{◌≡◌, refl}
-use Prim.Native.Nat.{◌-◌}
-use lib.ListN.{length, length-set}
+use mathlib.Core.Path.{refl}
+use lib.ListN.{length-set}
 use lib.Ieee.{nan}
-use Rattle.stage.proofs.Loop.{Wrote, wrote_start, wrote_turn, wrote_done}
+use Rattle.stage.proofs.Loop.{wrote_start, wrote_turn, wrote_done}
 use Rattle.blocks.proofs.copy.Goals as goal
 
 pub loop-i-init : goal.loop-i-init

@@ -1,9 +1,7 @@
-use borrow.Author.Rules.{rules}
-use mathlib.Core.Path.{◌≡◌, refl}
+use mathlib.Core.Path.{◌≡◌}
 use Prim.Native.Nat.{◌-◌}
-use lib.ListN.{length, length-set}
-use lib.Ieee.{nan}
-use Rattle.stage.proofs.Loop.{Wrote, wrote_start, wrote_turn, wrote_done}
+use lib.ListN.{length}
+use Rattle.stage.proofs.Loop.{Wrote}
 use Rattle.blocks.proofs.copy.Given as goal
 
 abbrev pub invariant-loop-i : goal.invariant-loop-i

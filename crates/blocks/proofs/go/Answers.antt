@@ -1,15 +1,14 @@
 use native.Mathlib.Omega.{arith}
-use mathlib.Core.Path.{◌≡◌, refl, sym, ◌∙◌}
+use mathlib.Core.Path.{refl, ◌∙◌}
 use borrow.Rule.Slice.PartMut.{mid_len, put_mid, same_len_mid}
 use Prim.Native.Nat.{◌+◌, ◌-◌, ◌*◌}
-use lib.ListN.{length}
 use Rattle.rate.specs.Rate.{RateUsable}
 use Rattle.rate.proofs.Rates.{usable_44100}
 use Rattle.tape.proofs.Lasting.{tuned_some}
 use Rattle.strip.specs.Kept.{state, lists_in, lane_in}
 use Rattle.blocks.specs.Run.{Runs}
 use Rattle.blocks.proofs.Rooms.{mid_put, room, back}
-use Rattle.blocks.proofs.Going.{Going, go_start, go_turn, go_done}
+use Rattle.blocks.proofs.Going.{go_start, go_turn, go_done}
 use Rattle.blocks.proofs.go.Goals as goal
 
 pub loop-i-init : goal.loop-i-init
@@ -53,15 +52,15 @@ block-strip-requires c =
       runs = l.invariant.0.runs;
       tape_value = q;
       piecewise = record {
-              some = omega (arith, k, m.0);
-              few = omega (arith, k, m.1);
-              before = omega (arith, k, m.2, l.invariant.0.place, s.requires.samples_bound, h);
+        some = omega (arith, k, m.0);
+        few = omega (arith, k, m.1);
+        before = omega (arith, k, m.2, l.invariant.0.place, s.requires.samples_bound, h);
       };
       outputs = record {
-              left = omega (arith, k, mid_len 0 e l.left (omega (arith, m.3, l.invariant.1.5)));
-              right = omega (arith, k, mid_len 0 e l.right (omega (arith, m.3, l.invariant.1.6)));
-              frames = omega (arith, k, mid_len (2 * l.i) (2 * (l.i + e)) l.frames (omega (arith, m.2, h, l.invariant.1.0)));
-              gains = omega (arith, k, mid_len l.i (l.i + e) l.gains (omega (arith, m.2, h, l.invariant.1.1)));
+        left = omega (arith, k, mid_len 0 e l.left (omega (arith, m.3, l.invariant.1.5)));
+        right = omega (arith, k, mid_len 0 e l.right (omega (arith, m.3, l.invariant.1.6)));
+        frames = omega (arith, k, mid_len (2 * l.i) (2 * (l.i + e)) l.frames (omega (arith, m.2, h, l.invariant.1.0)));
+        gains = omega (arith, k, mid_len l.i (l.i + e) l.gains (omega (arith, m.2, h, l.invariant.1.1)));
       };
     }
 

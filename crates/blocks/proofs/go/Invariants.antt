@@ -1,15 +1,8 @@
-use borrow.Author.Rules.{rules}
-use native.Mathlib.Omega.{arith}
-use mathlib.Core.Path.{◌≡◌, refl, sym, ◌∙◌}
+use mathlib.Core.Path.{◌≡◌}
 use Prim.Native.Nat.{◌-◌, ◌*◌}
 use lib.ListN.{length}
-use Rattle.rate.specs.Rate.{RateUsable}
-use Rattle.rate.proofs.Rates.{usable_44100}
-use Rattle.tape.proofs.Lasting.{tuned_some}
-use Rattle.strip.specs.Kept.{state, lists_in, lane_in}
-use Rattle.blocks.specs.Run.{Runs}
-use Rattle.blocks.proofs.Rooms.{mid_put, room, back}
-use Rattle.blocks.proofs.Going.{Going, go_start, go_turn, go_done}
+use Rattle.strip.specs.Kept.{state}
+use Rattle.blocks.proofs.Going.{Going}
 use Rattle.blocks.proofs.go.Given as goal
 
 abbrev pub invariant-loop-i : goal.invariant-loop-i

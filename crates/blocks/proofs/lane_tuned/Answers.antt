@@ -2,7 +2,6 @@ use native.Mathlib.Omega.{arith}
 use mathlib.Core.Path.{◌≡◌}
 use Prim.Native.Nat.{◌+◌, ◌-◌}
 use Rattle.duck.specs.Cursors.{duck_counts}
-use borrow.Author.Rules.{rules}
 use Rattle.blocks.proofs.lane_tuned.Goals as goal
 
 pub returns : goal.returns

@@ -1,11 +1,9 @@
-use Prim.Native.Nat.{◌-◌}
 use lib.Ieee.{nan, Float}
-use lib.ListN.{length, length-set, length-map, get_or-map}
-use mathlib.Core.Path.{◌≡◌, sym, ◌∙◌}
+use lib.ListN.{length-set, length-map, get_or-map}
+use mathlib.Core.Path.{sym, ◌∙◌}
 use mathlib.Core.List.{map}
 use Rattle.casts.specs.Arithmetic.{◌⊗◌}
-use Rattle.stage.proofs.Loop.{Wrote, wrote_start, wrote_turn, wrote_done}
-use borrow.Author.Rules.{rules}
+use Rattle.stage.proofs.Loop.{wrote_start, wrote_turn, wrote_done}
 use Rattle.blocks.proofs.send.Goals as goal
 
 pub loop-i-init : goal.loop-i-init

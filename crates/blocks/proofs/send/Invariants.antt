@@ -1,11 +1,9 @@
 use Prim.Native.Nat.{◌-◌}
-use lib.Ieee.{nan, Float}
-use lib.ListN.{length, length-set, length-map, get_or-map}
-use mathlib.Core.Path.{◌≡◌, sym, ◌∙◌}
+use lib.ListN.{length}
+use mathlib.Core.Path.{◌≡◌}
 use mathlib.Core.List.{map}
 use Rattle.casts.specs.Arithmetic.{◌⊗◌}
-use Rattle.stage.proofs.Loop.{Wrote, wrote_start, wrote_turn, wrote_done}
-use borrow.Author.Rules.{rules}
+use Rattle.stage.proofs.Loop.{Wrote}
 use Rattle.blocks.proofs.send.Given as goal
 
 abbrev pub invariant-loop-i : goal.invariant-loop-i
