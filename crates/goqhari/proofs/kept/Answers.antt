@@ -1,0 +1,7 @@
+use Rattle.goqhari.specs.Library.{packed_back}
+use borrow.Author.Rules.{rules}
+use Rattle.goqhari.proofs.kept.Goals as goal
+
+pub returns : goal.returns
+unfolding packed_back
+returns c = rw (c.pack.ensures.numbers_after, c.pack.ensures.words_after)
