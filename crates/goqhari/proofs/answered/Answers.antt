@@ -1,7 +1,6 @@
 use Rattle.goqhari.specs.Library.{outcome_back}
 use Rattle.strip.specs.declared.Outcome.{Outcome}
 use mathlib.Core.Path.{sym, ap, ◌∙◌}
-use borrow.Author.Rules.{rules}
 use Rattle.goqhari.proofs.answered.Goals as goal
 
 pub returns-in-Now : goal.returns-in-Now

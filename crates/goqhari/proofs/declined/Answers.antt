@@ -1,5 +1,4 @@
 use Rattle.goqhari.specs.Library.{declined_by}
-use borrow.Author.Rules.{rules}
 use Rattle.goqhari.proofs.declined.Goals as goal
 
 pub returns-then-long_enough : goal.returns-then-long_enough

@@ -1,7 +1,6 @@
 use Rattle.goqhari.proofs.Ends.{latch_short, latch_not, latch_strip}
 use Rattle.packing.proofs.Read.{read}
 use mathlib.Core.Path.{sym, ◌∙◌}
-use borrow.Author.Rules.{rules}
 use Rattle.goqhari.proofs.goqhari_latch.Goals as goal
 
 pub answered-requires : goal.answered-requires

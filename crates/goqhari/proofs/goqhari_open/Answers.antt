@@ -2,7 +2,6 @@ use Rattle.goqhari.proofs.Ends.{open_short, open_flags, open_done_lem}
 use Rattle.strip.specs.Kept.{lists_of}
 use Rattle.packing.proofs.Read.{room}
 use mathlib.Core.Path.{sym, ◌∙◌}
-use borrow.Author.Rules.{rules}
 use Rattle.goqhari.proofs.goqhari_open.Goals as goal
 
 pub returns-then-not-roomy : goal.returns-then-not-roomy

@@ -1,6 +1,5 @@
 use Rattle.goqhari.proofs.Ends.{rest_short, rest_not, rest_strip_lem}
 use mathlib.Core.Path.{sym, ◌∙◌}
-use borrow.Author.Rules.{rules}
 use Rattle.goqhari.proofs.goqhari_rest.Goals as goal
 
 pub returns-in-Short : goal.returns-in-Short

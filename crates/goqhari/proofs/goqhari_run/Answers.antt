@@ -1,7 +1,6 @@
 use Rattle.goqhari.proofs.Ends.{run_short, run_not, run_strip}
 use Rattle.packing.proofs.Read.{read}
 use mathlib.Core.Path.{sym, ◌∙◌}
-use borrow.Author.Rules.{rules}
 use Rattle.goqhari.proofs.goqhari_run.Goals as goal
 
 pub answered-requires : goal.answered-requires

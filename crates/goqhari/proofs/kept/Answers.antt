@@ -1,5 +1,4 @@
 use Rattle.goqhari.specs.Library.{packed_back}
-use borrow.Author.Rules.{rules}
 use Rattle.goqhari.proofs.kept.Goals as goal
 
 pub returns : goal.returns

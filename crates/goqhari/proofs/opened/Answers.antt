@@ -1,7 +1,6 @@
 use Rattle.goqhari.specs.Library.{opened_back}
 use Rattle.strip.specs.declared.Opened.{Opened}
 use mathlib.Core.Path.{sym, ap, ◌∙◌}
-use borrow.Author.Rules.{rules}
 use Rattle.goqhari.proofs.opened.Goals as goal
 
 pub returns-in-Strip : goal.returns-in-Strip

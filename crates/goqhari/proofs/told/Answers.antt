@@ -1,7 +1,6 @@
 use Rattle.goqhari.specs.Library.{rested_back}
 use Rattle.strip.specs.declared.Rested.{Rested}
 use mathlib.Core.Path.{sym, ap}
-use borrow.Author.Rules.{rules}
 use Rattle.goqhari.proofs.told.Goals as goal
 
 pub returns-in-Rests : goal.returns-in-Rests
