@@ -116,8 +116,8 @@ fn tie_end(positions: &[u64], i: usize) -> usize
 
 // The lowest value of the tie that ends with the first e points.
 fn lowest_to(positions: &[u64], values: &[f64], e: usize) -> f64
-    requires positions_in_bounds { length positions.now ≤ length values.now }
-    requires e_nonzero { (0 < e) × (e ≤ length positions.now) }
+    requires values_long_enough { length positions.now ≤ length values.now }
+    requires e_in_bounds { (0 < e) × (e ≤ length positions.now) }
     ensures { result ≡ lowest_to positions.now values.now e }
 {
     let mut i = e - 1;
@@ -134,7 +134,7 @@ fn lowest_to(positions: &[u64], values: &[f64], e: usize) -> f64
 
 // How open the sweep is at n, i being the points reached. Points on one position count as one with their lowest value.
 fn sweep_at(positions: &[u64], values: &[f64], i: usize, n: u64) -> f64
-    requires positions_in_bounds { length positions.now ≤ length values.now }
+    requires values_long_enough { length positions.now ≤ length values.now }
     requires reached { Reached positions.now n i }
     ensures { result ≡ sweep_at positions.now values.now n }
 {
@@ -268,7 +268,7 @@ fn tuning_at(
     i: usize,
     n: u64,
 ) -> Tuning
-    requires positions_in_bounds { length positions.now ≤ length values.now }
+    requires values_long_enough { length positions.now ≤ length values.now }
     requires reached { Reached positions.now n i }
     ensures { result ≡ tuning_at tone daylight positions.now values.now n }
 {

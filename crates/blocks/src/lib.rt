@@ -79,8 +79,8 @@ pub fn lane_block(
     requires tape_value { tape ≡ tuned_of rate n (lane_on lane samples.old counts.old) }
     requires piecewise { Piecewise tape.until n (length dry.old) }
     requires sent_len { length sent.old ≡ length dry.old }
-    ensures counts_after { lane_on result samples.new counts.new ≡ ran (lane_step_on rate drums) n (lane_on lane samples.old counts.old) dry.old }
-    ensures sent_after { sents_in dry.new sent.new ≡ outs (lane_step_on rate drums) n (lane_on lane samples.old counts.old) dry.old }
+    ensures lane_after { lane_on result samples.new counts.new ≡ ran (lane_step_on rate drums) n (lane_on lane samples.old counts.old) dry.old }
+    ensures sents_after { sents_in dry.new sent.new ≡ outs (lane_step_on rate drums) n (lane_on lane samples.old counts.old) dry.old }
 {
     let warp = places::warp_samples(rate);
     let setup = lane.setup;
@@ -134,7 +134,7 @@ fn mix(
     requires plate_usable { PlateUsable rate }
     requires part_len { (length part.old ≡ plate_samples rate) × (n + length dry.now ≤ last_position) }
     requires left_len { (length left.old ≡ length dry.now) × (length right.old ≡ length dry.now) }
-    ensures part_after { plate_on result part.new ≡ ran (mixed_step_on rate) n (plate_on plate part.old) (sents_in dry.now left.old) }
+    ensures plate_after { plate_on result part.new ≡ ran (mixed_step_on rate) n (plate_on plate part.old) (sents_in dry.now left.old) }
     ensures left_after { left.new ≡ map (λ (f : Frame). f.left) (outs (mixed_step_on rate) n (plate_on plate part.old) (sents_in dry.now left.old)) }
     ensures right_after { right.new ≡ map (λ (f : Frame). f.right) (outs (mixed_step_on rate) n (plate_on plate part.old) (sents_in dry.now left.old)) }
 {
@@ -161,7 +161,7 @@ pub fn bus_block(
     requires bus_runs { BusRuns rate (bus_on bus samples.old counts.old) }
     requires dry_bound { n + length dry.now ≤ last_position }
     requires outputs { Outputs (length dry.now) (length left.old) (length right.old) (length frames.old) (length gains.old) }
-    ensures counts_after { bus_on result samples.new counts.new ≡ ran (bus_step_on rate) n (bus_on bus samples.old counts.old) (sents_in dry.now left.old) }
+    ensures bus_after { bus_on result samples.new counts.new ≡ ran (bus_step_on rate) n (bus_on bus samples.old counts.old) (sents_in dry.now left.old) }
     ensures frames_after { frames.new ≡ frames_out (outs (bus_step_on rate) n (bus_on bus samples.old counts.old) (sents_in dry.now left.old)) }
     ensures gains_after { gains.new ≡ counts_out (outs (bus_step_on rate) n (bus_on bus samples.old counts.old) (sents_in dry.now left.old)) }
 {

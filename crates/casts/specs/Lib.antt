@@ -1,4 +1,4 @@
--- Definitions that contracts cite (Arithmetic, Cast, minF of Least, stepOf of Step), and laws of the order of floats that other crates cite.
+-- Definitions that contracts cite (Arithmetic, Cast, min_f of Least, step_of of Step), and laws of the order of floats that other crates cite.
 pub mod Arithmetic
 pub mod Cast
 pub mod Order

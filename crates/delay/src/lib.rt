@@ -94,7 +94,7 @@ impl DelayLine {
     }
 
     pub fn at(self, part: &[f64], written: u64, delay: u64) -> f64
-        requires ring_nonzero { (0 < self.ring) × (self.at + self.ring ≤ length part.now) }
+        requires line_in_part { (0 < self.ring) × (self.at + self.ring ≤ length part.now) }
         requires delay_bound { delay < 4294967296 }
         ensures { result ≡ line_at self part.now written delay }
     {
@@ -104,7 +104,7 @@ impl DelayLine {
     }
 
     pub fn tap(self, part: &[f64], written: u64, max_delay: f64, delay: f64) -> f64
-        requires ring_nonzero { (0 < self.ring) × (self.at + self.ring ≤ length part.now) }
+        requires line_in_part { (0 < self.ring) × (self.at + self.ring ≤ length part.now) }
         requires reach { Reach max_delay }
         ensures { result ≡ line_tap self part.now written max_delay delay }
     {

@@ -254,8 +254,8 @@ fn product_by_two(rate: DuckRate, counts: &[u64], count: usize, from: usize, n: 
 fn past_attacks(rate: DuckRate, counts: &[u64], count: usize, from: usize, n: u64) -> PastAttacks
     requires { (duck_counts ≤ length counts.now) × (count ≤ most_kicks) × (from ≤ count) × (n + 1 < last_position) }
     ensures next_le_count { result.next ≤ count }
-    ensures counts_value { times_until rate n result.gains.at (drop result.next (kicks_in count counts.now)) (drop result.next (marks_in count counts.now)) ≡ times_until rate n one (drop from (kicks_in count counts.now)) (drop from (marks_in count counts.now)) }
-    ensures counts_value_2 { times_until rate (n + 1) result.gains.after (drop result.next (kicks_in count counts.now)) (drop result.next (marks_in count counts.now)) ≡ times_until rate (n + 1) one (drop from (kicks_in count counts.now)) (drop from (marks_in count counts.now)) }
+    ensures times_at { times_until rate n result.gains.at (drop result.next (kicks_in count counts.now)) (drop result.next (marks_in count counts.now)) ≡ times_until rate n one (drop from (kicks_in count counts.now)) (drop from (marks_in count counts.now)) }
+    ensures times_after { times_until rate (n + 1) result.gains.after (drop result.next (kicks_in count counts.now)) (drop result.next (marks_in count counts.now)) ≡ times_until rate (n + 1) one (drop from (kicks_in count counts.now)) (drop from (marks_in count counts.now)) }
 {
     let mut gains = Gains {
         at: 1.0,
@@ -293,7 +293,7 @@ fn products(rate: DuckRate, counts: &[u64], count: usize, from: usize, n: u64) -
 // The duck at n but for its gain.
 fn moved(rate: DuckRate, duck: Duck, counts: &mut [u64], n: u64, drums: bool) -> Duck
     requires { Within (duck_on duck counts.old) }
-    ensures counts_after { duck_on result counts.new ≡ (gain_on rate drums n (duck_on duck counts.old)).next }
+    ensures duck_after { duck_on result counts.new ≡ (gain_on rate drums n (duck_on duck counts.old)).next }
     ensures within { Within (duck_on result counts.new) }
 {
     let count = duck.count;
@@ -320,7 +320,7 @@ fn duck_two(rate: DuckRate, duck: Duck, counts: &mut [u64], n: u64, drums: bool)
     requires within { Within (duck_on duck counts.old) }
     requires n_bound { n + 1 < last_position }
     ensures at_value { result.gains.at ≡ (gain_on rate drums n (duck_on duck counts.old)).out }
-    ensures after_after { gave result.duck counts.new result.gains.after ≡ gain_on rate drums (n + 1) (gain_on rate drums n (duck_on duck counts.old)).next }
+    ensures second_step { gave result.duck counts.new result.gains.after ≡ gain_on rate drums (n + 1) (gain_on rate drums n (duck_on duck counts.old)).next }
 {
     let first = moved(rate, duck, counts, n, drums);
     let gains = products(rate, counts, first.count, first.ducking, n);
@@ -350,7 +350,7 @@ pub fn duck_block(
 ) -> Duck
     requires within { Within (duck_on duck counts.old) }
     requires block_bound { n + length block.old ≤ last_position }
-    ensures counts_after { duck_on result counts.new ≡ ran (duck_step_on rate drums) n (duck_on duck counts.old) block.old }
+    ensures duck_after { duck_on result counts.new ≡ ran (duck_step_on rate drums) n (duck_on duck counts.old) block.old }
     ensures block_after { block.new ≡ outs (duck_step_on rate drums) n (duck_on duck counts.old) block.old }
 {
     let mut duck = duck;

@@ -161,7 +161,7 @@ pub record Normal (x : Float) : Type 0 where
   pub least : 2 ^ 52 ≤ to_bits binary64 x
   pub most : to_bits binary64 x < 2047 * 2 ^ 52
 
--- m is D / 2^52, from 1 up to 2, and x is D / 2^52 times 2^field / 2^1023: `exponentOf x` is field - 1023
+-- m is D / 2^52, from 1 up to 2, and x is D / 2^52 times 2^field / 2^1023: `exponent_of x` is field - 1023
 pub record Splits (x : Float) : Type 0 where
   pub D : ℕ
   pub lead : 2 ^ 52 ≤ D

@@ -452,7 +452,7 @@ fn limited(
     n: u64,
 ) -> Ceiling
     requires in_bounds { (1323 ≤ length samples.old) × (1104 ≤ length counts.old) }
-    requires t { T (well_formed (ceiling_rate 44100) (ceiling_on c samples.old counts.old)) }
+    requires is_well_formed { T (well_formed (ceiling_rate 44100) (ceiling_on c samples.old counts.old)) }
     ensures { T (well_formed (ceiling_rate 44100) (ceiling_on result samples.new counts.new)) }
 {
     if call_fits(left.len(), right.len(), frames.len(), gains.len(), n) {
@@ -473,7 +473,7 @@ fn all_limited(
     calls: &[u64],
 )
     requires in_bounds { (1323 ≤ length samples.old) × (1104 ≤ length counts.old) }
-    requires t { T (well_formed (ceiling_rate 44100) (ceiling_on c samples.old counts.old)) }
+    requires is_well_formed { T (well_formed (ceiling_rate 44100) (ceiling_on c samples.old counts.old)) }
     requires left_len_bound { length left.now ≤ last_position }
     requires right_len { (length right.now ≡ length left.now) × (length gains.old ≡ length left.now) }
     requires frames_len { length frames.old ≡ 2 * length left.now }

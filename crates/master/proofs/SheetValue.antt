@@ -1,4 +1,4 @@
--- THE SHEET VALUE (02, E11), over every list of frames: count-bound gives the gain bound of any past, side-bounded the rest. Assumes nothing.
+-- THE SHEET VALUE (02, E11), over every list of frames: count_bound gives the gain bound of any past, side_bounded the rest. Assumes nothing.
 use Rattle.std.proofs.Common.{◌≡◌, ℕ, zero, suc, ◌+◌, ◌*◌, ◌≤◌, Bool, cond, List, [], ◌∷◌, ◌++◌, length, get_or, replicate, sym, refl, ap, ◌∙◌, subst, inl, inr, append_assoc, le_refl, arith, lit≤, length-append}
 use mathlib.Core.Path.{subst⁻¹}
 use lib.ListN.{get_or-eq_default}

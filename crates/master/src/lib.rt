@@ -132,7 +132,7 @@ fn enqueue(
 ) -> Queue
     requires usable { Usable rate }
     requires sized { Sized rate samples.old counts.old }
-    requires head_bound { (c.head < places_of rate) × (c.len ≤ places_of rate) × (n < last_position) }
+    requires queue_and_position_bounds { (c.head < places_of rate) × (c.len ≤ places_of rate) × (n < last_position) }
     ensures head { result.head ≡ head_after rate n (ceiling_on c samples.old counts.old) need }
     ensures len { result.len ≡ len_after rate n (ceiling_on c samples.old counts.old) need }
     ensures samples { samples.new ≡ needs_after rate (ceiling_on c samples.old counts.old) need }
@@ -174,8 +174,8 @@ fn steps(x: f64) -> u64
 
 // The step of the frame n takes the oldest one's place, and the count that follows is returned.
 fn renew(rate: CeilingRate, n: u64, count: u64, counts: &mut [u64], s: u64) -> u64
-    requires n_in_bounds { (step_place rate n < length counts.old) × (rate.ahead < 65535) }
-    requires n_bound { slice_index counts.old (step_place rate n) ≤ count }
+    requires step_place_in_bounds { (step_place rate n < length counts.old) × (rate.ahead < 65535) }
+    requires oldest_le_count { slice_index counts.old (step_place rate n) ≤ count }
     requires count_bound { (count ≤ 65535 * 1099511627776) × (s ≤ 1099511627776) }
     ensures value { result ≡ count - slice_index counts.old (step_place rate n) + s }
     ensures counts_after { counts.new ≡ slice_set counts.old (step_place rate n) s }
@@ -247,7 +247,7 @@ pub fn step(
 ) -> Turn
     requires usable { Usable rate }
     requires sized { Sized rate samples.old counts.old }
-    requires t { T (well_formed rate (ceiling_on c samples.old counts.old)) }
+    requires is_well_formed { T (well_formed rate (ceiling_on c samples.old counts.old)) }
     requires n_lt_last_position { n < last_position }
     ensures { gave result.ceiling samples.new counts.new result.heard ≡ ceiling_step_on rate n (ceiling_on c samples.old counts.old) f }
 {
@@ -285,10 +285,10 @@ pub fn block(
 ) -> Ceiling
     requires usable { Usable rate }
     requires sized { Sized rate samples.old counts.old }
-    requires t { T (well_formed rate (ceiling_on c samples.old counts.old)) }
+    requires is_well_formed { T (well_formed rate (ceiling_on c samples.old counts.old)) }
     requires left_bound { (n + length left.now ≤ last_position) × (length right.now ≡ length left.now) }
     requires frames_len { (length frames.old ≡ 2 * length left.now) × (length gains.old ≡ length left.now) }
-    ensures counts_after { ceiling_on result samples.new counts.new ≡ ran (ceiling_step_on rate) n (ceiling_on c samples.old counts.old) (frames_in left.now right.now) }
+    ensures ceiling_after { ceiling_on result samples.new counts.new ≡ ran (ceiling_step_on rate) n (ceiling_on c samples.old counts.old) (frames_in left.now right.now) }
     ensures frames_after { frames.new ≡ frames_out (outs (ceiling_step_on rate) n (ceiling_on c samples.old counts.old) (frames_in left.now right.now)) }
     ensures gains_after { gains.new ≡ counts_out (outs (ceiling_step_on rate) n (ceiling_on c samples.old counts.old) (frames_in left.now right.now)) }
 {
@@ -359,7 +359,7 @@ pub fn fresh(rate: CeilingRate, samples: &mut [f64], counts: &mut [u64]) -> Ceil
 // Whether every late frame is zero on both sides.
 pub fn at_rest(rate: CeilingRate, samples: &[f64]) -> bool
     requires usable { Usable rate }
-    requires rate_in_bounds { ceiling_samples rate ≤ length samples.now }
+    requires samples_long_enough { ceiling_samples rate ≤ length samples.now }
     ensures { result ≡ ceiling_at_rest_on rate samples.now }
 {
     let start = rate.window + 1;
@@ -410,7 +410,7 @@ fn steps_in(counts: &[u64], from: usize, count: usize) -> bool
 // The sum of the count steps from `from` on.
 fn total(counts: &[u64], from: usize, count: usize) -> u64
     requires count_in_bounds { (from + count ≤ length counts.now) × (count ≤ 65535) }
-    requires t { T (steps_in counts.now from count) }
+    requires are_steps { T (steps_in counts.now from count) }
     ensures { result ≡ sum_at counts.now from count }
 {
     let mut sum: u64 = 0;

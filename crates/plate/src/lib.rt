@@ -117,8 +117,8 @@ fn leaving(rate: HalfRate, part: &[f64], n: u64) -> f64
 
 // A side's taps of the other half and of its own, n samples being pushed.
 fn taps(t: Taps, other: HalfRate, own: HalfRate, there: &[f64], here: &[f64], n: u64) -> f64
-    requires half_usable { HalfUsable other }
-    requires half_usable_2 { HalfUsable own }
+    requires other_usable { HalfUsable other }
+    requires own_usable { HalfUsable own }
     requires taps_usable { TapsUsable t other own }
     requires there_len { (length there.now ≡ other.places) × (length here.now ≡ own.places) }
     ensures { result ≡ taps_on t other own n there.now here.now }
@@ -349,7 +349,7 @@ fn group(
     requires plate_usable { PlateUsable rate }
     requires left_len_bound { length left.old ≤ 8 }
     requires part_len { (length part.old ≡ plate_samples rate) × (length right.old ≡ length left.old) × (n + length left.old ≤ last_position) }
-    ensures part_after { plate_on result part.new ≡ ran (plate_step_on rate) n (plate_on plate part.old) left.old }
+    ensures plate_after { plate_on result part.new ≡ ran (plate_step_on rate) n (plate_on plate part.old) left.old }
     ensures left_after { left.new ≡ map (λ (f : Frame). f.left) (outs (plate_step_on rate) n (plate_on plate part.old) left.old) }
     ensures right_after { right.new ≡ map (λ (f : Frame). f.right) (outs (plate_step_on rate) n (plate_on plate part.old) left.old) }
 {
@@ -383,7 +383,7 @@ pub fn block(
 ) -> Plate
     requires plate_usable { PlateUsable rate }
     requires part_len { (length part.old ≡ plate_samples rate) × (length right.old ≡ length left.old) × (n + length left.old ≤ last_position) }
-    ensures part_after { plate_on result part.new ≡ ran (plate_step_on rate) n (plate_on plate part.old) left.old }
+    ensures plate_after { plate_on result part.new ≡ ran (plate_step_on rate) n (plate_on plate part.old) left.old }
     ensures left_after { left.new ≡ map (λ (f : Frame). f.left) (outs (plate_step_on rate) n (plate_on plate part.old) left.old) }
     ensures right_after { right.new ≡ map (λ (f : Frame). f.right) (outs (plate_step_on rate) n (plate_on plate part.old) left.old) }
 {

@@ -153,7 +153,7 @@ fn front_group(
 ) -> Lowpass
     requires warp_fits { WarpFits rate ring.old }
     requires group_bound { (n + length group.old ≤ last_position) × (n < last_position) × (length group.old ≤ 8) }
-    ensures ring_after { front_on result ring.new ≡ ran (front_step_on rate setup) n (front_on tone ring.old) group.old }
+    ensures front_after { front_on result ring.new ≡ ran (front_step_on rate setup) n (front_on tone ring.old) group.old }
     ensures group_after { group.new ≡ outs (front_step_on rate setup) n (front_on tone ring.old) group.old }
 {
     let pad = setup.pad;
@@ -191,7 +191,7 @@ fn front_block(
 ) -> Lowpass
     requires warp_fits { WarpFits rate ring.old }
     requires block_bound { n + length block.old ≤ last_position }
-    ensures ring_after { front_on result ring.new ≡ ran (front_step_on rate setup) n (front_on tone ring.old) block.old }
+    ensures front_after { front_on result ring.new ≡ ran (front_step_on rate setup) n (front_on tone ring.old) block.old }
     ensures block_after { block.new ≡ outs (front_step_on rate setup) n (front_on tone ring.old) block.old }
 {
     let mut tone = tone;
@@ -260,7 +260,7 @@ fn duck_block(
 ) -> Duck
     requires within { Within (duck_on duck counts.old) }
     requires block_bound { n + length block.old ≤ last_position }
-    ensures counts_after { duck_on result counts.new ≡ ran (ducked_step_on rate ducked drums) n (duck_on duck counts.old) block.old }
+    ensures duck_after { duck_on result counts.new ≡ ran (ducked_step_on rate ducked drums) n (duck_on duck counts.old) block.old }
     ensures block_after { block.new ≡ outs (ducked_step_on rate ducked drums) n (duck_on duck counts.old) block.old }
 {
     if ducked {
@@ -324,7 +324,7 @@ pub fn tape_block(
     requires warp_fits { WarpFits rate ring.old }
     requires within { Within (duck_on tape.duck counts.old) }
     requires block_bound { n + length block.old ≤ last_position }
-    ensures counts_after { tape_on result ring.new counts.new ≡ ran (tape_tuned rate setup rain drums) n (tape_on tape ring.old counts.old) block.old }
+    ensures tape_after { tape_on result ring.new counts.new ≡ ran (tape_tuned rate setup rain drums) n (tape_on tape ring.old counts.old) block.old }
     ensures block_after { block.new ≡ outs (tape_tuned rate setup rain drums) n (tape_on tape ring.old counts.old) block.old }
 {
     let tone = front_block(rate, setup, tape.tone, ring, block, n);

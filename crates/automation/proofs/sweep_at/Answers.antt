@@ -15,7 +15,7 @@ returns-then-i-positions c =
 pub lowest_to-xb-requires : goal.lowest_to-xb-requires
 lowest_to-xb-requires c =
     let within = tie_within c.args.positions.now c.args.i (search rules) in
-    record { positions_in_bounds = c.requires.positions_in_bounds; e_nonzero = (omega (arith, c.tie_end.ensures, within.0), omega (arith, c.tie_end.ensures, within.1)) }
+    record { values_long_enough = c.requires.values_long_enough; e_in_bounds = (omega (arith, c.tie_end.ensures, within.0), omega (arith, c.tie_end.ensures, within.1)) }
 
 pub segment-requires : goal.segment-requires
 segment-requires c =

@@ -41,4 +41,4 @@ returns c =
     let k = c.lane_block-lane in
     let b = c.bus_block-bus in
     block_ended g.rate s.requires.rate_usable g.strip g.store.now g.counts.now s.requires.runs c.bus_samples-lane_at.result (c.bus_samples-lane_at.result + c.lane_samples.result) c.bus_counts-counts_at.result (c.bus_counts-counts_at.result + lane_counts) c.bus_samples-lane_at.ensures (omega (arith, c.lane_samples.ensures)) c.bus_counts-counts_at.ensures refl g.drums g.dry.now k.new.samples k.new.counts k.result b.result b.new.samples b.new.counts _
-    b.new.frames b.new.gains k.ensures.counts_after k.ensures.sent_after b.ensures.counts_after b.ensures.frames_after b.ensures.gains_after
+    b.new.frames b.new.gains k.ensures.lane_after k.ensures.sents_after b.ensures.bus_after b.ensures.frames_after b.ensures.gains_after

@@ -26,7 +26,7 @@ block-ceiling-requires c =
     let long : length m.new.part ≡ p.result = omega (arith, m.auto.part, mid_len 0 p.result g.samples.now (omega (arith, p.ensures, s.requires.bus_runs.long.samples))) in record {
       usable = s.requires.rate_usable.ceiling;
       sized = ceiling_room g.rate g.bus g.n g.samples.now g.counts.now (sents_in g.dry.now g.left.now) s.requires.bus_runs p.result p.ensures m.new.part long;
-      t = ceiling_well g.rate g.bus g.n g.samples.now g.counts.now (sents_in g.dry.now g.left.now) s.requires.bus_runs p.result p.ensures m.new.part long;
+      is_well_formed = ceiling_well g.rate g.bus g.n g.samples.now g.counts.now (sents_in g.dry.now g.left.now) s.requires.bus_runs p.result p.ensures m.new.part long;
       left_bound = (omega (arith, x, o.left, s.requires.dry_bound), omega (arith, x, y, o.left, o.right));
       frames_len = (omega (arith, x, o.left, o.frames), omega (arith, x, o.left, o.gains));
     }
@@ -39,9 +39,9 @@ returns c =
     let k = c.block-ceiling in
     let p = c.plate_samples-at in
     let long : length m.new.part ≡ p.result = omega (arith, m.auto.part, mid_len 0 p.result g.samples.now (omega (arith, p.ensures, s.requires.bus_runs.long.samples))) in
-    let gave = bus_gave g.rate g.bus g.n g.samples.now g.counts.now (sents_in g.dry.now g.left.now) s.requires.bus_runs p.result p.ensures m.new.part long m.result m.new.left m.new.right m.ensures.part_after m.ensures.left_after m.ensures.right_after in record {
-      counts_after = bus_ended g.rate g.bus g.n g.samples.now g.counts.now (sents_in g.dry.now g.left.now) s.requires.bus_runs p.result p.ensures m.new.part long m.result m.new.left m.new.right m.ensures.part_after m.ensures.left_after m.ensures.right_after
-          k.result k.new.samples k.new.counts k.ensures.counts_after;
+    let gave = bus_gave g.rate g.bus g.n g.samples.now g.counts.now (sents_in g.dry.now g.left.now) s.requires.bus_runs p.result p.ensures m.new.part long m.result m.new.left m.new.right m.ensures.plate_after m.ensures.left_after m.ensures.right_after in record {
+      bus_after = bus_ended g.rate g.bus g.n g.samples.now g.counts.now (sents_in g.dry.now g.left.now) s.requires.bus_runs p.result p.ensures m.new.part long m.result m.new.left m.new.right m.ensures.plate_after m.ensures.left_after m.ensures.right_after
+          k.result k.new.samples k.new.counts k.ensures.ceiling_after;
       frames_after = k.ensures.frames_after ∙ ap frames_out gave;
       gains_after = k.ensures.gains_after ∙ ap counts_out gave;
     }

@@ -25,8 +25,8 @@ returns c =
     let g = s.args in
     let t = c.tape_block-tape in
     let p = s.requires in record {
-      counts_after = lane_ended g.rate g.lane g.tape g.drums g.n g.samples.now g.counts.now g.dry.now p.lane_runs p.tape_value p.piecewise _ c.warp_samples-warp.ensures t.result
-          t.new.ring t.new.counts t.new.block c.send.new.sent t.ensures.counts_after t.ensures.block_after c.send.ensures;
-      sent_after = lane_gave g.rate g.lane g.tape g.drums g.n g.samples.now g.counts.now g.dry.now p.lane_runs p.tape_value p.piecewise _ c.warp_samples-warp.ensures t.result
-          t.new.ring t.new.counts t.new.block c.send.new.sent t.ensures.counts_after t.ensures.block_after c.send.ensures;
+      lane_after = lane_ended g.rate g.lane g.tape g.drums g.n g.samples.now g.counts.now g.dry.now p.lane_runs p.tape_value p.piecewise _ c.warp_samples-warp.ensures t.result
+          t.new.ring t.new.counts t.new.block c.send.new.sent t.ensures.tape_after t.ensures.block_after c.send.ensures;
+      sents_after = lane_gave g.rate g.lane g.tape g.drums g.n g.samples.now g.counts.now g.dry.now p.lane_runs p.tape_value p.piecewise _ c.warp_samples-warp.ensures t.result
+          t.new.ring t.new.counts t.new.block c.send.new.sent t.ensures.tape_after t.ensures.block_after c.send.ensures;
     }

@@ -8,12 +8,6 @@ use Rattle.casts.proofs.narrowed_bits.Goals as goal
 pub returns-then-field-lt873 : goal.returns-then-field-lt873
 returns-then-field-lt873 c = narrows_tiny c.args.m c.if-field-lt873.true
 
-pub returns-then-field-ge1151 : goal.returns-then-field-ge1151
-returns-then-field-ge1151 c = elim (eq-or-lt_of_le c.requires) [
-  | inl e ↦ subst (λ (m : ℕ). Narrows m 2139095040) (sym e) narrows_inf
-  | inr l ↦ narrows_past c.args.m c.if-field-ge1151.true l
-]
-
 pub closest_over-requires : goal.closest_over-requires
 closest_over-requires c = (omega arith, subst (λ (u : ℕ). 0 < u) (sym c.power.ensures) (pow_pos (926 - c.args.m / 4503599627370496)))
 
@@ -37,3 +31,9 @@ short-requires-2 c = omega (arith, (mid c.args.m c.closest_over-2.result c.close
 
 pub returns : goal.returns
 returns c = subst (λ (r : ℕ). Narrows c.args.m r) (sym c.short-2.ensures) (mid c.args.m c.closest_over-2.result c.closest_over-2.ensures c.if-field-lt897.false c.if-field-ge1151.false)
+
+pub returns-then-field-ge1151 : goal.returns-then-field-ge1151
+returns-then-field-ge1151 c = elim (eq-or-lt_of_le c.requires) [
+  | inl e ↦ subst (λ (m : ℕ). Narrows m 2139095040) (sym e) narrows_inf
+  | inr l ↦ narrows_past c.args.m c.if-field-ge1151.true l
+]

@@ -39,8 +39,8 @@ loop-i-preserved c =
     let first = turn a.rate a.drums a.n _ _ s l.block l.i (record { next = t.next; out = w.result.gains.at }) l.invariant.0 (omega arith)
     (ap (λ (g : Float). record { next = t.next; out = g }) w.ensures.at_value) in (
       rw z at (turn a.rate a.drums a.n _ _ t.next b (l.i + 1) (gave w.result.duck w.new.counts w.result.gains.after) first (simp length-set (omega arith))
-          (w.ensures.after_after ∙ ap (λ (m : ℕ). gain_on a.rate a.drums m t.next) q)),
-      subst⁻¹ (λ (g : Step DuckIn Float). Within g.next) w.ensures.after_after (gain_within a.rate a.drums (n + 1) t.next (gain_within a.rate a.drums n s l.invariant.1)),
+          (w.ensures.second_step ∙ ap (λ (m : ℕ). gain_on a.rate a.drums m t.next) q)),
+      subst⁻¹ (λ (g : Step DuckIn Float). Within g.next) w.ensures.second_step (gain_within a.rate a.drums (n + 1) t.next (gain_within a.rate a.drums n s l.invariant.1)),
       w.auto.counts ∙ l.invariant.2,
     )
 
@@ -54,7 +54,7 @@ returns-then-i-block c =
     let b = set l.block l.i (get_or l.block l.i nan ⊗ w.result.gain) in
     let all : length b ≤ l.i + 1 = simp length-set (omega arith) in
     let last = turn a.rate a.drums a.n _ _ (duck_on l.duck l.counts) l.block l.i (gave w.result.duck w.new.counts w.result.gain) l.invariant.0 c.if-i-block.true w.ensures in
-    record { counts_after = in_ran f a.n _ _ t b (l.i + 1) last all; block_after = in_outs f a.n _ _ t b (l.i + 1) last all }
+    record { duck_after = in_ran f a.n _ _ t b (l.i + 1) last all; block_after = in_outs f a.n _ _ t b (l.i + 1) last all }
 
 pub returns-else-i-block : goal.returns-else-i-block
 returns-else-i-block c =
@@ -62,4 +62,4 @@ returns-else-i-block c =
     let a = c.args in
     let f = duck_step_on a.rate a.drums in
     let s = duck_on l.duck l.counts in
-    record { counts_after = in_ran f a.n _ _ s l.block l.i l.invariant.0 c.if-i-block.false; block_after = in_outs f a.n _ _ s l.block l.i l.invariant.0 c.if-i-block.false }
+    record { duck_after = in_ran f a.n _ _ s l.block l.i l.invariant.0 c.if-i-block.false; block_after = in_outs f a.n _ _ s l.block l.i l.invariant.0 c.if-i-block.false }

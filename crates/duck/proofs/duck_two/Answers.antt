@@ -12,10 +12,10 @@ returns-then-duck-first-2 c =
     let m = c.moved-duck in
     let t = duck_on f.result f.new.counts in
     let u = duck_on m.result m.new.counts in
-    let same = stays a.rate a.drums (a.n + 1) t u m.ensures.counts_after c.if-duck-first.true c.if-duck-first-2.true in
-    let both = two_are a.rate a.drums a.n (duck_on a.duck a.counts.now) t u _ _ f.ensures.counts_after p.ensures.at_value m.ensures.counts_after
+    let same = stays a.rate a.drums (a.n + 1) t u m.ensures.duck_after c.if-duck-first.true c.if-duck-first-2.true in
+    let both = two_are a.rate a.drums a.n (duck_on a.duck a.counts.now) t u _ _ f.ensures.duck_after p.ensures.at_value m.ensures.duck_after
     (p.ensures.after_value ∙ ap (product_on a.rate (a.n + 1)) (sym same)) in
-    record { at_value = both.0; after_after = both.1 }
+    record { at_value = both.0; second_step = both.1 }
 
 pub returns : goal.returns
 returns c =
@@ -23,6 +23,6 @@ returns c =
     let f = c.moved-first in
     let p = c.products-gains in
     let m = c.moved-duck in
-    let both = two_are a.rate a.drums a.n (duck_on a.duck a.counts.now) (duck_on f.result f.new.counts) (duck_on m.result m.new.counts) _ _ f.ensures.counts_after p.ensures.at_value m.ensures.counts_after
+    let both = two_are a.rate a.drums a.n (duck_on a.duck a.counts.now) (duck_on f.result f.new.counts) (duck_on m.result m.new.counts) _ _ f.ensures.duck_after p.ensures.at_value m.ensures.duck_after
     c.product-after.ensures in
-    record { at_value = both.0; after_after = both.1 }
+    record { at_value = both.0; second_step = both.1 }

@@ -8,4 +8,4 @@ returns c =
     let a = c.args in
     let s = duck_on a.duck a.counts.now in
     let e = moved_is a.rate a.drums a.n s _ _ _ c.mark-reached.ensures c.advance-ducking.ensures in
-    record { counts_after = e; within = subst⁻¹ Within e (gain_within a.rate a.drums a.n s c.requires) }
+    record { duck_after = e; within = subst⁻¹ Within e (gain_within a.rate a.drums a.n s c.requires) }

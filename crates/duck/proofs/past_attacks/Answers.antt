@@ -31,7 +31,7 @@ loop-c-preserved c =
     )
 
 pub returns-after-loop-c : goal.returns-after-loop-c
-returns-after-loop-c c = let i = c.loop-c.invariant in record { next_le_count = i.0; counts_value = i.1; counts_value_2 = i.2 }
+returns-after-loop-c c = let i = c.loop-c.invariant in record { next_le_count = i.0; times_at = i.1; times_after = i.2 }
 
 pub returns-then-not-has_attacked : goal.returns-then-not-has_attacked
-returns-then-not-has_attacked c = let i = c.loop-c.invariant in record { next_le_count = i.0; counts_value = i.1; counts_value_2 = i.2 }
+returns-then-not-has_attacked c = let i = c.loop-c.invariant in record { next_le_count = i.0; times_at = i.1; times_after = i.2 }

@@ -15,7 +15,7 @@ well_formed-requires c = let e = c.cd-rate.ensures in let k = c.fresh-c.auto in 
 pub all_limited-requires : goal.all_limited-requires
 all_limited-requires c = let f = c.call_fits.ensures c.if-call_fits.true in let k = c.fresh-c.auto in record {
   in_bounds = (omega (arith, c.if-samples-lt-LATE.false, k.samples), omega (arith, c.if-counts-lt-STEPS.false, k.counts));
-  t = passes _ _ _ c.cd-rate.ensures c.well_formed-then-call_fits.ensures c.if-well_formed.true;
+  is_well_formed = passes _ _ _ c.cd-rate.ensures c.well_formed-then-call_fits.ensures c.if-well_formed.true;
   left_len_bound = omega (arith, f.3);
   right_len = (f.0, f.1);
   frames_len = f.2;

@@ -8,13 +8,13 @@ use Rattle.master.proofs.block.Goals as goal
 pub loop-i-init : goal.loop-i-init
 loop-i-init c =
     let s = c in
-    block_start _ s.requires.usable _ _ _ _ s.requires.left_bound.1 _ _ (ready_of _ _ s.requires.sized s.requires.t) s.requires.frames_len.0 s.requires.frames_len.1
+    block_start _ s.requires.usable _ _ _ _ s.requires.left_bound.1 _ _ (ready_of _ _ s.requires.sized s.requires.is_well_formed) s.requires.frames_len.0 s.requires.frames_len.1
 
 pub step-t-requires : goal.step-t-requires
 step-t-requires c =
     let l = c.loop-i in
     let s = c in
-    record { usable = s.requires.usable; sized = l.invariant.ready.sized; t = of_ready _ _ l.invariant.ready; n_lt_last_position = omega (arith, s.requires.left_bound.0, c.loop-i-test.true) }
+    record { usable = s.requires.usable; sized = l.invariant.ready.sized; is_well_formed = of_ready _ _ l.invariant.ready; n_lt_last_position = omega (arith, s.requires.left_bound.0, c.loop-i-test.true) }
 
 pub overflow_mul-frames : goal.overflow_mul-frames
 overflow_mul-frames c = record { fits = omega (arith, c.requires.left_bound.0, c.loop-i-test.true) }
@@ -59,4 +59,4 @@ returns c =
     let s = c in
     let q =
     block_done s.args.rate s.requires.usable s.args.n _ _ _ s.requires.left_bound.1 (ceiling_on l.c l.samples l.counts) l.frames l.gains l.i l.invariant c.loop-i-test.false in
-    record { counts_after = q.0; frames_after = q.1.0; gains_after = q.1.1 }
+    record { ceiling_after = q.0; frames_after = q.1.0; gains_after = q.1.1 }

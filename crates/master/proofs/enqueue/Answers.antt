@@ -11,7 +11,7 @@ pub bounds-counts-i : goal.bounds-counts-i
 bounds-counts-i c = let s = c in omega (arith, c.wrapped-i.ensures.1, s.requires.sized.rooms)
 
 pub bounds-counts-head : goal.bounds-counts-head
-bounds-counts-head c = let s = c in simp length-set (omega (arith, s.requires.head_bound.0, s.requires.sized.rooms))
+bounds-counts-head c = let s = c in simp length-set (omega (arith, s.requires.queue_and_position_bounds.0, s.requires.sized.rooms))
 
 pub returns-then-head_goes : goal.returns-then-head_goes
 returns-then-head_goes c =

@@ -37,7 +37,7 @@ returns-then-not-steps_in c =
 pub total-requires : goal.total-requires
 total-requires c =
     let s = c in
-    record { count_in_bounds = (s.requires.sized.rooms, omega (arith, s.requires.usable.ahead_small)); t = subst T (sym (sym c.steps_in.ensures ∙ c.if-not-steps_in.false)) tt }
+    record { count_in_bounds = (s.requires.sized.rooms, omega (arith, s.requires.usable.ahead_small)); are_steps = subst T (sym (sym c.steps_in.ensures ∙ c.if-not-steps_in.false)) tt }
 
 pub returns : goal.returns
 returns c =

@@ -22,7 +22,7 @@ group-plate-requires c =
 
 pub loop-i-preserved : goal.loop-i-preserved
 loop-i-preserved c = let l = c.loop-i in let s = c in let w = c.group-plate in let e = c.group_end-e in
-    plate_group s.args.rate s.args.n _ _ (plate_on l.plate l.part) l.left l.right l.i e.result (plate_on w.result w.new.part) w.new.left w.new.right l.invariant (omega (arith, e.ensures.0)) e.ensures.1 w.auto.part w.ensures.part_after w.ensures.left_after w.ensures.right_after
+    plate_group s.args.rate s.args.n _ _ (plate_on l.plate l.part) l.left l.right l.i e.result (plate_on w.result w.new.part) w.new.left w.new.right l.invariant (omega (arith, e.ensures.0)) e.ensures.1 w.auto.part w.ensures.plate_after w.ensures.left_after w.ensures.right_after
 
 pub returns : goal.returns
-returns c = let l = c.loop-i in let s = c in let d = plate_done s.args.rate s.args.n _ _ (plate_on l.plate l.part) l.left l.right l.i l.invariant c.loop-i-test.false in record { part_after = d.0; left_after = d.1.0; right_after = d.1.1 }
+returns c = let l = c.loop-i in let s = c in let d = plate_done s.args.rate s.args.n _ _ (plate_on l.plate l.part) l.left l.right l.i l.invariant c.loop-i-test.false in record { plate_after = d.0; left_after = d.1.0; right_after = d.1.1 }

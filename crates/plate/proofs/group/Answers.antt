@@ -17,4 +17,4 @@ loop-i-preserved c = let l = c.loop-i in let s = c in let w = c.step-g in
     plate_turn s.args.rate s.args.n _ _ (plate_on l.plate l.part) l.left l.right l.i (gave (plate_on w.result.plate w.new.part) w.result.frame) l.invariant c.loop-i-test.true w.auto.part w.ensures
 
 pub returns : goal.returns
-returns c = let l = c.loop-i in let s = c in let d = plate_done s.args.rate s.args.n _ _ (plate_on l.plate l.part) l.left l.right l.i l.invariant c.loop-i-test.false in record { part_after = d.0; left_after = d.1.0; right_after = d.1.1 }
+returns c = let l = c.loop-i in let s = c in let d = plate_done s.args.rate s.args.n _ _ (plate_on l.plate l.part) l.left l.right l.i l.invariant c.loop-i-test.false in record { plate_after = d.0; left_after = d.1.0; right_after = d.1.1 }

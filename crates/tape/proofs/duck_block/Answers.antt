@@ -9,4 +9,4 @@ returns-then-ducked c = rw c.if-ducked.true c.duck_block.ensures
 
 pub returns : goal.returns
 unfolding ducked_step_on
-returns c = let e = c.if-ducked.false in record { counts_after = rw e (sym (ran_identity _ _ _)); block_after = rw e (sym (outs_identity _ _ _)) }
+returns c = let e = c.if-ducked.false in record { duck_after = rw e (sym (ran_identity _ _ _)); block_after = rw e (sym (outs_identity _ _ _)) }

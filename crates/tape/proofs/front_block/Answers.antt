@@ -25,11 +25,11 @@ pub loop-i-preserved : goal.loop-i-preserved
 loop-i-preserved c = let l = c.loop-i in
     let g = c.front_group-tone in
     let e = c.group_end-e.ensures in
-    (in_block _ _ _ _ (front_on l.tone l.ring) l.block l.i _ _ _ l.invariant.0 (omega (arith, e.0)) e.1 g.ensures.ring_after g.ensures.group_after, g.auto.ring ∙ l.invariant.1)
+    (in_block _ _ _ _ (front_on l.tone l.ring) l.block l.i _ _ _ l.invariant.0 (omega (arith, e.0)) e.1 g.ensures.front_after g.ensures.group_after, g.auto.ring ∙ l.invariant.1)
 
 pub returns : goal.returns
 returns c = let l = c.loop-i in
     record {
-      ring_after = in_ran _ _ _ _ (front_on l.tone l.ring) l.block l.i l.invariant.0 c.loop-i-test.false;
+      front_after = in_ran _ _ _ _ (front_on l.tone l.ring) l.block l.i l.invariant.0 c.loop-i-test.false;
       block_after = in_outs _ _ _ _ (front_on l.tone l.ring) l.block l.i l.invariant.0 c.loop-i-test.false;
     }

@@ -45,6 +45,6 @@ loop-i-preserved c = let l = c.loop-i in
 pub returns : goal.returns
 returns c = let l = c.loop-i in
     record {
-      ring_after = in_ran _ _ _ _ (front_on l.tone l.ring) l.group l.i l.invariant.0 c.loop-i-test.false;
+      front_after = in_ran _ _ _ _ (front_on l.tone l.ring) l.group l.i l.invariant.0 c.loop-i-test.false;
       group_after = in_outs _ _ _ _ (front_on l.tone l.ring) l.group l.i l.invariant.0 c.loop-i-test.false;
     }

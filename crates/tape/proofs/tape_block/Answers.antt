@@ -19,8 +19,8 @@ returns c =
     let e = c.equalizer_block-equalizer.ensures in
     let k = c.duck_block-duck.ensures in
     record {
-      counts_after =
-          rw (ap (λ (u : DuckIn). u.duck) k.counts_after, ap (λ (u : DuckIn). u.part) k.counts_after, e.value, e.block_after, x, f.block_after, ap (λ (u : FrontIn). u.tone) f.ring_after, ap (λ (u : FrontIn). u.ring) f.ring_after)
+      tape_after =
+          rw (ap (λ (u : DuckIn). u.duck) k.duck_after, ap (λ (u : DuckIn). u.part) k.duck_after, e.value, e.block_after, x, f.block_after, ap (λ (u : FrontIn). u.tone) f.front_after, ap (λ (u : FrontIn). u.ring) f.front_after)
           (sym (tape_ran a.rate a.setup a.rain a.drums a.tape a.n a.ring.now a.counts.now a.block.now));
       block_after = rw (k.block_after, e.block_after, x, f.block_after) (sym (tape_outs a.rate a.setup a.rain a.drums a.tape a.n a.ring.now a.counts.now a.block.now));
     }
