@@ -1,7 +1,7 @@
 #!/usr/bin/env python3
 """Spells this repository's own definitions, lemmas and fields in snake case: `lastPosition` is `last_position`, `field-below` is `field_below`, a prime is '.
 
-usage: snake_words.py [FOLDER]      run once, in a tree that /opt/rattle/port/port.py has turned
+usage: snake_words.py [FOLDER]      run once, in a tree that the kit's port.py has turned
 
 Turned are names that specs/ and proofs/ declare, wherever they stand in .antt files, clauses, `ghost use` lines, must-fail edits and comments' backticks. Left are types and modules,
 names of Rust's, of std and of the logic, and the names that Rattle makes in a function's proof folder. Where a lemma would get its definition's name it ends in `_lem`.
