@@ -75,7 +75,6 @@ def turn(folder, crate, f, text, before, table):
     by_now = {}
     for w, n in zip(was, now):
         by_now[n] = goals.get(plain(w))
-    news = {n for _, n in table["needs"]}
     steps = {}
     for place in table["places"]:
         o, n = place[2]
