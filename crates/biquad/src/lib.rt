@@ -1,6 +1,6 @@
 // Second-order sections by value, the cookbook's low-pass at run time, and the order-4 low-pass of two sections.
 // Uses casts, elementary and stream.
-#![tactic(auto)]
+#![tactic(auto, unfolding(crate::specs::Cookbook::angle_of, crate::specs::Cookbook::lowpass_at, crate::specs::Cookbook::lowpass_retuned, crate::specs::Cookbook::lpf, crate::specs::Cookbook::normalized, crate::specs::Section::lowpass_at_rest, crate::specs::Section::lowpass_step, crate::specs::Section::retuned, crate::specs::Section::section_at, crate::specs::Section::section_at_rest, crate::specs::Section::section_step))]
 
 ghost use Rattle.std.specs.Prelude.{◌≡◌};
 ghost use Rattle.biquad.specs.Section.{section_at, section_step, retuned, section_at_rest, lowpass_step, lowpass_at_rest};

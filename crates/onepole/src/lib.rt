@@ -1,6 +1,6 @@
 // The one-pole low-pass, and the tilt that it makes.
 // Uses casts, elementary and stream.
-#![tactic(auto)]
+#![tactic(auto, unfolding(crate::specs::OnePole::lift_of, crate::specs::OnePole::one_pole_at, crate::specs::OnePole::one_pole_at_rest, crate::specs::OnePole::one_pole_step, crate::specs::OnePole::tilt_step))]
 
 ghost use Rattle.std.specs.Prelude.{◌≡◌};
 ghost use Rattle.onepole.specs.OnePole.{one_pole_at, one_pole_step, tilt_step, one_pole_at_rest, lift_of};

@@ -1,6 +1,6 @@
 // A control's ramp, closed-form in the position, so that nothing moves it but a latch.
 // Uses casts and elementary.
-#![tactic(auto)]
+#![tactic(auto, unfolding(crate::specs::Ramp::held, crate::specs::Ramp::ramp_at, crate::specs::Ramp::shaped, crate::specs::Ramp::toward))]
 
 ghost use Rattle.std.specs.Prelude.{◌≡◌, nat_le};
 ghost use Rattle.ramp.specs.Ramp.{ramp_end, held, shaped, ramp_at, toward};

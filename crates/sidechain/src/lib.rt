@@ -1,6 +1,6 @@
 // A kick's gain (whole.rs `sidechain_gain`): at one sample, at two neighbours at once, and of two kicks at once. Uses casts and attack, and no
 // rate by its number.
-#![tactic(auto)]
+#![tactic(auto, unfolding(crate::specs::Sidechain::releases))]
 
 ghost use Rattle.std.specs.Prelude.{◌≡◌, ◌+◌, ◌<◌, ◌≤◌, true};
 ghost use Rattle.casts.specs.Arithmetic.{◌⊕◌, ◌⊖◌, ◌⊗◌, ◌⊘◌, one, whole};
