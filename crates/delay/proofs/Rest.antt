@@ -1,27 +1,24 @@
 -- A list that holds only zeros. Assumes nothing.
-use Rattle.std.proofs.Common.{◌≡◌, ℕ, zero, suc, ◌+◌, ◌-◌, ◌%◌, ◌^◌, ◌<◌, ◌≤◌, Bool, true, false, cond, ◌&&◌, ◌⊎◌, List, [], ◌∷◌, ◌++◌, length, get_or, take, drop, replicate, sym, refl, ap, ◌∙◌, inl, inr, ⊎_elim, true≢false, mod-lt, mod-eq_of_lt, add-one, arith, length-drop, drop_of_length-le, length-take-le, get_or-drop, drop-cons, get_or-take}
+use Rattle.std.proofs.Common.{◌≡◌, ℕ, zero, suc, ◌+◌, ◌-◌, ◌%◌, ◌^◌, ◌<◌, ◌≤◌, Bool, true, false, cond, ◌&&◌, ◌⊎◌, List, [], ◌∷◌, ◌++◌, length, get_or, take, drop, replicate, sym, refl, ap, ◌∙◌, inl, inr, ⊎_elim, true≢false, mod-lt, mod-eq_of_lt, arith, length-drop, length-take-le, get_or-drop, get_or-take}
 use native.Mathlib.Nat.{mod-eq-sub-mod, mod-add-mod, mod-mod_of_dvd, dvd_of_mod-eq-zero}
 use native.Mathlib.Decide.{dec_lt}
 use lib.ListN.{get_or-replicate}
+use Rattle.std.specs.List.{list_all}
 use lib.Ieee.{Float, nan, eq, of_bits}
 use Rattle.casts.specs.Arithmetic.{nought}
 use Rattle.delay.specs.declared.DelayLine.{DelayLine}
 use Rattle.delay.specs.Delay.{back, store_tap, line_of, history, all_zero, Usable}
 use Rattle.delay.proofs.Line.{line_at_lem, history_length}
 
--- a loop over the list: one element more, one that is no zero, and the end
-module _ (l : List Float) (i : ℕ) where
-  pub zero_more : i < length l → eq (get_or l i nan) nought ≡ true → all_zero (drop (i + 1) l) ≡ all_zero (drop i l)
-  unfolding all_zero
-  zero_more h e = rw (add-one i, drop-cons l i nan h, e)
-
-  pub zero_none : i < length l → eq (get_or l i nan) nought ≡ false → all_zero (drop i l) ≡ false
-  unfolding all_zero
-  zero_none h e = rw (drop-cons l i nan h, e)
-
-  pub zero_done : length l ≤ i → all_zero (drop i l) ≡ true
-  unfolding all_zero
-  zero_done h = rw (drop_of_length-le l h)
+-- as std's test of each element
+pub all_zero-list_all : (l : List Float) → list_all (λ x. eq x nought) l ≡ all_zero l
+unfolding all_zero
+all_zero-list_all [] = refl
+all_zero-list_all (x ∷ xs) = go (eq x nought) (all_zero-list_all xs)
+  where
+    go : (t : Bool) → list_all (λ y. eq y nought) xs ≡ all_zero xs → (t && list_all (λ y. eq y nought) xs) ≡ cond t (all_zero xs) false
+    go true e = e
+    go false e = refl
 
 -- ---- element by element
 

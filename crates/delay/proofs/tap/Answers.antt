@@ -1,29 +1,21 @@
-use Rattle.std.proofs.Common.{ℕ, ◌≡◌, ◌<◌, arith, rules}
-use lib.Ieee.{Float, to_unsigned}
-use Rattle.casts.specs.Arithmetic.{nought}
-use Rattle.delay.specs.Delay.{not_below, not_above, tap_of, Reach}
+use Rattle.std.proofs.Common.{◌≤◌, arith, rules}
+use Rattle.delay.specs.Delay.{tap_of}
 use Rattle.delay.proofs.Whole.{held_small}
+use Rattle.delay.proofs.tap.Goals.{After-whole_part-whole}
 use Rattle.delay.proofs.tap.Goals as goal
 
-is_held : (delay most low d : Float) → low ≡ not_below delay nought → d ≡ not_above low most → d ≡ not_above (not_below delay nought) most
-is_held delay most low d e f = rw (f, e)
-
-small : (delay most low d : Float) (k : ℕ) → Reach most → low ≡ not_below delay nought → d ≡ not_above low most → k ≡ to_unsigned 64 d → k < 4294967295
-small delay most low d k r e f g = let h = held_small delay most r in rw (g, is_held delay most low d e f) (omega arith)
+small : (c : After-whole_part-whole) → c.whole_part-whole.result ≤ 65536
+small c = rw (c.whole_part-whole.ensures, c.held-d.ensures) (held_small c.args.delay c.args.max_delay c.requires.1)
 
 pub at-requires : goal.at-requires
-at-requires c =
-    (search rules, omega (arith, small c.args.delay c.args.max_delay c.not_below.result c.not_above-d.result c.whole_part-whole.result c.requires.1 c.not_below.ensures c.not_above-d.ensures c.whole_part-whole.ensures))
+at-requires c = (search rules, omega (arith, small (goal.at.at-requires c).After-whole_part-whole))
 
 pub overflow_add-whole : goal.overflow_add-whole
-overflow_add-whole c =
-    record { fits = omega (arith, small c.args.delay c.args.max_delay c.not_below.result c.not_above-d.result c.whole_part-whole.result c.requires.1 c.not_below.ensures c.not_above-d.ensures c.whole_part-whole.ensures) }
+overflow_add-whole c = record { fits = omega (arith, small (goal.at.overflow_add-whole c).After-whole_part-whole) }
 
 pub at-requires-2 : goal.at-requires-2
-at-requires-2 c =
-    (search rules, omega (arith, small c.args.delay c.args.max_delay c.not_below.result c.not_above-d.result c.whole_part-whole.result c.requires.1 c.not_below.ensures c.not_above-d.ensures c.whole_part-whole.ensures))
+at-requires-2 c = (search rules, omega (arith, small (goal.at.at-requires-2 c).After-whole_part-whole))
 
 pub returns : goal.returns
 unfolding tap_of
-returns c =
-    rw (c.at-2.ensures, c.at.ensures, c.nearest_u64_to_f64.ensures, c.whole_part-whole.ensures, is_held c.args.delay c.args.max_delay c.not_below.result c.not_above-d.result c.not_below.ensures c.not_above-d.ensures)
+returns c = rw (c.at-2.ensures, c.at.ensures, c.nearest_u64_to_f64.ensures, c.whole_part-whole.ensures, c.held-d.ensures)
