@@ -1,27 +1,19 @@
--- A loop that counts the tests that fail: whether none has failed so far, and none of what is left will. Assumes nothing.
-use Rattle.std.proofs.Common.{◌≡◌, ℕ, ◌+◌, ◌*◌, ◌%◌, ◌<◌, ◌≤◌, Bool, true, false, cond, ◌&&◌, eqb, ltb, leb, List, length, get_or, drop, add-zero, add-one, arith, drop_of_length-le, drop-cons, le-ltb, lt-ltb, ne_eqb, le-leb}
+-- Loops that go on to the end: whether all so far pass, and all of what is left. Assumes nothing.
+use Rattle.std.proofs.Common.{◌≡◌, ℕ, ◌+◌, ◌*◌, ◌%◌, ◌<◌, ◌≤◌, Bool, ◌&&◌, ltb, leb, List, [], ◌∷◌, length, get_or, drop, add-one, sym, ◌∙◌, arith, drop_of_length-le, drop-cons, le-ltb, lt-ltb, le-leb}
+use Rattle.std.proofs.Math.Bool.{and_assoc}
+use Rattle.std.specs.List.{fold}
 use mathlib.Core.Bool.{and-true, and-false}
 use native.Mathlib.Decide.{dec_lt}
 use lib.Bits.{bit_or, or_lt, or_add_and, and_le_l, and_le_r}
-use lib.Ieee.{Float, nan}
+use lib.Ieee.{Float}
 use borrow.Author.Tests.{lt-leb}
 use Rattle.ranges.specs.Ranges.{last_position, in_range, all_in_range, rising_from}
 
--- one test more
-pub count_more : (n : ℕ) (t rest : Bool) → (eqb (n + cond t 0 1) 0 && rest) ≡ (eqb n 0 && (t && rest))
-count_more n true rest = rw (add-zero n)
-count_more n false rest = rw (ne_eqb (n + 1) 0 (λ e. omega arith), and-false (eqb n 0))
-
 -- ---- each in a range
-
-module _ (lo hi : Float) (l : List Float) (i n : ℕ) where
-  pub range_more : i < length l → (eqb (n + cond (in_range lo hi (get_or l i nan)) 0 1) 0 && all_in_range lo hi (drop (i + 1) l)) ≡ (eqb n 0 && all_in_range lo hi (drop i l))
-  unfolding all_in_range
-  range_more h = rw (count_more n, drop-cons l i nan h, add-one i)
-
-  pub range_done : length l ≤ i → eqb n 0 ≡ (eqb n 0 && all_in_range lo hi (drop i l))
-  unfolding all_in_range
-  range_done h = rw (drop_of_length-le l h, and-true (eqb n 0))
+pub range_folded : (lo hi : Float) (all : Bool) (l : List Float) → fold (λ b x. b && in_range lo hi x) all l ≡ (all && all_in_range lo hi l)
+unfolding all_in_range
+range_folded lo hi all [] = sym (and-true all)
+range_folded lo hi all (x ∷ xs) = range_folded lo hi (all && in_range lo hi x) xs ∙ and_assoc all (in_range lo hi x) (all_in_range lo hi xs)
 
 -- ---- a list that never falls: where none falls from b on, b is at most 2^32 where what follows it is
 
@@ -49,19 +41,19 @@ joined a b =
       | no f ↦ rw (le-ltb (bit_or a b) reach (omega arith), le-ltb a reach (omega arith))
     ]
 
-pub part_below : (n k d : ℕ) → bit_or (bit_or n k) d < reach → k < reach
+pub part_below : (n k d : ℕ) → bit_or n (bit_or k d) < reach → k < reach
 part_below n k d h =
-    let outer = or_add_and (bit_or n k) d in
-    let inner = or_add_and n k in
-    omega (arith, and_le_r (bit_or n k) d, and_le_l n k)
+    let outer = or_add_and n (bit_or k d) in
+    let inner = or_add_and k d in
+    omega (arith, and_le_l n (bit_or k d), and_le_r k d)
 
 -- d is k - b, wrapped
 apart : (b k n d : ℕ) (rest : Bool) → (d + b) % 18446744073709551616 ≡ k → d < 18446744073709551616 → (n < reach → b < reach)
-    → (ltb (bit_or (bit_or n k) d) reach && (leb k last_position && rest)) ≡ (ltb n reach && (leb b k && (leb k last_position && rest)))
+    → (ltb (bit_or n (bit_or k d)) reach && (leb k last_position && rest)) ≡ (ltb n reach && (leb b k && (leb k last_position && rest)))
 apart b k n d rest e fits h =
-    rw (joined (bit_or n k) d, joined n k)
+    rw (joined n (bit_or k d), joined k d)
     (elim (dec_lt last_position k) [
-      | yes f ↦ rw (lt-leb k last_position f, and-false (leb b k), and-false (ltb n reach)) (and-false ((ltb n reach && ltb k reach) && ltb d reach))
+      | yes f ↦ rw (lt-leb k last_position f, and-false (leb b k), and-false (ltb n reach)) (and-false (ltb n reach && (ltb k reach && ltb d reach)))
       | no f ↦ elim (dec_lt n reach) [
         | no g ↦ rw (le-ltb n reach (omega arith))
         | yes g ↦
@@ -75,7 +67,7 @@ apart b k n d rest e fits h =
 
 module _ (l : List ℕ) (b i n : ℕ) where
   pub rising_more : (d : ℕ) → i < length l → (d + b) % 18446744073709551616 ≡ get_or l i 0 → d < 18446744073709551616 → (n < reach → b < reach)
-      → (ltb (bit_or (bit_or n (get_or l i 0)) d) reach && (leb (get_or l i 0) last_position && rising_from (get_or l i 0) (drop (i + 1) l)))
+      → (ltb (bit_or n (bit_or (get_or l i 0) d)) reach && (leb (get_or l i 0) last_position && rising_from (get_or l i 0) (drop (i + 1) l)))
       ≡ (ltb n reach && (leb b last_position && rising_from b (drop i l)))
   unfolding rising_from
   rising_more d h e fits low = rw (apart b (get_or l i 0) n d _ e fits low, drop-cons l i 0 h, add-one i, between b (get_or l i 0) last_position)
