@@ -1,7 +1,7 @@
 // The rate's own type: what depends on the rate, for each stage, made by a constructor out of constants.
 // places.rt has how long each part of the stores is.
 // Uses ranges, biquad, delay, attack, sidechain and duck for their types and numbers; the definitions in specs/ use casts, elementary, stream and onepole too.
-#![tactic(auto, unfolding(biquad::specs::Cookbook::angle_of, biquad::specs::Cookbook::bandpass_at, biquad::specs::Cookbook::bpf, biquad::specs::Cookbook::butter_q, biquad::specs::Cookbook::lowpass_at, biquad::specs::Cookbook::lpf, biquad::specs::Cookbook::normalized, casts::specs::Cast::floored, casts::specs::Cast::two_to, crate::specs::Lengths::ceil_of, crate::specs::Lengths::rounded, crate::specs::Lengths::samples_at, crate::specs::Rate::rate_of, crate::specs::Tape::duck_rate, crate::specs::Tape::flutter_of, crate::specs::Tape::tape_rate, crate::specs::Tape::warp_of, crate::specs::Tape::wow_of, delay::specs::Delay::power_from, delay::specs::Delay::ring_of, elementary::specs::Elementary::COS, elementary::specs::Elementary::EXP, elementary::specs::Elementary::LN, elementary::specs::Elementary::POW, elementary::specs::Elementary::SIN, elementary::specs::Elementary::SINH, elementary::specs::Elementary::down, onepole::specs::OnePole::pole_of, stream::specs::Stream::gain_of_db))]
+#![tactic(auto)]
 
 ghost use Rattle.std.specs.Prelude.{◌≡◌};
 ghost use Rattle.casts.specs.Arithmetic.{whole};
