@@ -37,7 +37,7 @@ pub fn setup(s: &Setup) -> String {
     } else {
         format!("Fixed ({}) ({})", single(s.corners[0]), double(s.drive))
     };
-    let pad = s.pad.map_or("Without".into(), |[hz, depth]| format!("Swell ({}) ({})", single(hz), single(depth)));
+    let pad = s.pad.map_or("None".into(), |[hz, depth]| format!("Some (record {{ hz = {}; depth = {} }})", single(hz), single(depth)));
     let [input, output] = s.gains.map(double);
     format!(
         "record {{ tape = record {{ tone = {tone}; pad = {pad}; darkened = {}; input = {input}; output = {output}; ducked = {} }}; \

@@ -316,9 +316,8 @@ fn cd(rng: &mut Rng) -> Played {
 }
 
 const LISTS: &str = "-- Lists of calls and of samples, and what the Rust gave for them. Made by harness/vectors: no line here was written by hand.
-use Rattle.std.specs.Prelude.{true, false, List, [], ◌∷◌, ◌++◌}
+use Rattle.std.specs.Prelude.{true, false, List, [], ◌∷◌, ◌++◌, None, Some}
 use Rattle.automation.specs.declared.Tone.TheVariants.{Fixed, Graded}
-use Rattle.oscillators.specs.declared.Pad.TheVariants.{Without, Swell}
 use Rattle.strip.specs.Machine.{Event, latch}
 use Rattle.strip.specs.Promise.{Call, run, move, ask, ran, moved, rests, declined}
 use Rattle.played.specs.Played.{Played, Sounded, double, single, room, counts, sampled}";

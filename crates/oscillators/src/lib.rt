@@ -11,11 +11,11 @@ ghost use Rattle.oscillators.specs.Oscillators.{phase_of, swell_of, warp_delay, 
 use eight::Eight;
 use rate::TapeRate;
 
-// An optional pad: its swell's rate in Hz and its depth.
+// A pad: its swell's rate in Hz and its depth.
 #[derive(Clone, Copy)]
-pub enum Pad {
-    Without,
-    Swell { hz: f32, depth: f32 },
+pub struct Pad {
+    pub hz: f32,
+    pub depth: f32,
 }
 
 // The phase in radians, within one cycle, of a sine at hz, n samples in; an f32's value.
@@ -34,12 +34,12 @@ fn swell_by(depth: f32, s: f64) -> f64
 }
 
 // The pad's swell at sample n; 1 without a pad.
-fn swell(rate: u32, pad: Pad, n: u64) -> f64
+fn swell(rate: u32, pad: Option<Pad>, n: u64) -> f64
     ensures { result ≡ swell_of rate pad n }
 {
     match pad {
-        Pad::Without => 1.0,
-        Pad::Swell { hz, depth } => swell_by(depth, elementary::sin(phase(rate, hz, n))),
+        None => 1.0,
+        Some(Pad { hz, depth }) => swell_by(depth, elementary::sin(phase(rate, hz, n))),
     }
 }
 
@@ -95,13 +95,13 @@ fn swells_by(depth: f32, s: Eight) -> Eight
     }
 }
 
-fn swell_eight(rate: u32, pad: Pad, n: u64) -> Eight
+fn swell_eight(rate: u32, pad: Option<Pad>, n: u64) -> Eight
     requires { n < last_position }
     ensures { result ≡ eight_of (λ k. swell_of rate pad (n + k)) }
 {
     match pad {
-        Pad::Without => eight::all_of(1.0),
-        Pad::Swell { hz, depth } => swells_by(depth, eight::sin_eight(phases(rate, hz, n))),
+        None => eight::all_of(1.0),
+        Some(Pad { hz, depth }) => swells_by(depth, eight::sin_eight(phases(rate, hz, n))),
     }
 }
 
@@ -147,7 +147,7 @@ fn delay_eight(rate: TapeRate, n: u64) -> Eight
 
 // ---- of a group, the first count of the eight samples from n on: a sample alone is cheaper by the plain functions
 
-pub fn swells(rate: u32, pad: Pad, n: u64, count: usize) -> [f64; 8]
+pub fn swells(rate: u32, pad: Option<Pad>, n: u64, count: usize) -> [f64; 8]
     requires { (n < last_position) × (count ≤ 8) }
     ensures { Laid count (λ k. swell_of rate pad (n + k)) result }
 {

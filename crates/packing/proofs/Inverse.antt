@@ -17,7 +17,7 @@ use Rattle.ramp.specs.declared.Ramp.{Ramp}
 use Rattle.automation.specs.declared.Tone.{Tone}
 use Rattle.automation.specs.declared.Tone.TheVariants.{Fixed, Graded}
 use Rattle.oscillators.specs.declared.Pad.{Pad}
-use Rattle.oscillators.specs.declared.Pad.TheVariants.{Without, Swell}
+use Rattle.std.specs.Prelude.{Option, None, Some}
 use Rattle.tape.specs.declared.Equalizer.{Equalizer}
 use Rattle.tape.specs.declared.Tape.{Tape}
 use Rattle.tape.specs.declared.TapeSetup.{TapeSetup}
@@ -79,15 +79,15 @@ tape_is t ns ws = rw (lowpass_is t.tone _) (rw (equalizer_is t.equalizer _))
 abbrev toned : Tone → List Float → List Float
 toned t l = number_at (tone_numbers t) 0 ∷ number_at (tone_numbers t) 1 ∷ number_at (tone_numbers t) 2 ∷ number_at (tone_numbers t) 3 ∷ l
 
-abbrev padded : Pad → List Float → List Float
+abbrev padded : Option Pad → List Float → List Float
 padded p l = number_at (pad_numbers p) 0 ∷ number_at (pad_numbers p) 1 ∷ l
 
-spread : (t : Tone) (p : Pad) (l : List Float) → tone_numbers t ++ (pad_numbers p ++ l) ≡ toned t (padded p l)
+spread : (t : Tone) (p : Option Pad) (l : List Float) → tone_numbers t ++ (pad_numbers p ++ l) ≡ toned t (padded p l)
 unfolding tone_numbers pad_numbers
-spread (Fixed a b) Without l = refl
-spread (Fixed a b) (Swell c d) l = refl
-spread (Graded a b c d) Without l = refl
-spread (Graded a b c d) (Swell e f) l = refl
+spread (Fixed a b) None l = refl
+spread (Fixed a b) (Some c) l = refl
+spread (Graded a b c d) None l = refl
+spread (Graded a b c d) (Some e) l = refl
 
 tone_is : (t : Tone) (ns : List Float) → ToneSingle t → tone_from (toned t ns) (tone_tag t) ≡ t
 unfolding tone_numbers tone_from
@@ -99,15 +99,15 @@ unfolding tone_numbers tone_fits both_short
 tone_fits_lem (Fixed a b) ns h = short_is a h
 tone_fits_lem (Graded a b c d) ns h = rw (short_is a h.0, short_is b h.1, short_is c h.2, short_is d h.3)
 
-pad_is : (p : Pad) (ns : List Float) → PadSingle p → pad_from (padded p ns) (pad_tag p) ≡ p
+pad_is : (p : Option Pad) (ns : List Float) → PadSingle p → pad_from (padded p ns) (pad_tag p) ≡ p
 unfolding pad_numbers pad_from
-pad_is Without ns h = refl
-pad_is (Swell a b) ns h = rw (narrowed_own a h.0, narrowed_own b h.1)
+pad_is None ns h = refl
+pad_is (Some p) ns h = rw (narrowed_own p.hz h.0, narrowed_own p.depth h.1)
 
-pad_fits_lem : (p : Pad) (ns : List Float) → PadSingle p → pad_fits (padded p ns) (pad_tag p) ≡ true
+pad_fits_lem : (p : Option Pad) (ns : List Float) → PadSingle p → pad_fits (padded p ns) (pad_tag p) ≡ true
 unfolding pad_numbers pad_fits both_short
-pad_fits_lem Without ns h = refl
-pad_fits_lem (Swell a b) ns h = rw (short_is a h.0, short_is b h.1)
+pad_fits_lem None ns h = refl
+pad_fits_lem (Some p) ns h = rw (short_is p.hz h.0, short_is p.depth h.1)
 
 module _ (k : Lane) where
   abbrev t : TapeSetup

@@ -1,5 +1,5 @@
 -- What was packed is read back, part by part, whatever stands behind a part's numbers and words. Proved as `inverse` (proofs/Inverse.antt).
-use Rattle.std.specs.Prelude.{◌≡◌, ℕ, List, ◌++◌, T, Float}
+use Rattle.std.specs.Prelude.{◌≡◌, ℕ, List, ◌++◌, T, Option, None, Some, Float}
 use Rattle.std.specs.Float.{binary32}
 use Rattle.std.specs.Float.Ieee.{fits}
 use Rattle.onepole.specs.declared.OnePole.{OnePole}
@@ -8,7 +8,6 @@ use Rattle.ramp.specs.declared.Ramp.{Ramp}
 use Rattle.automation.specs.declared.Tone.{Tone}
 use Rattle.automation.specs.declared.Tone.TheVariants.{Fixed, Graded}
 use Rattle.oscillators.specs.declared.Pad.{Pad}
-use Rattle.oscillators.specs.declared.Pad.TheVariants.{Without, Swell}
 use Rattle.strip.specs.declared.Lane.{Lane}
 use Rattle.strip.specs.declared.Bus.{Bus}
 use Rattle.strip.specs.declared.Strip.{Strip}
@@ -23,9 +22,9 @@ abbrev pub ToneSingle : Tone → Type 0
 ToneSingle (Fixed corner drive) = Single corner
 ToneSingle (Graded nightCorner dayCorner nightDrive dayDrive) = Single nightCorner × Single dayCorner × Single nightDrive × Single dayDrive
 
-abbrev pub PadSingle : Pad → Type 0
-PadSingle Without = Unit {0}
-PadSingle (Swell hz depth) = Single hz × Single depth
+abbrev pub PadSingle : Option Pad → Type 0
+PadSingle None = Unit {0}
+PadSingle (Some pad) = Single pad.hz × Single pad.depth
 
 pub record Singles (k : Lane) : Type 0 where
   pub tone : ToneSingle k.setup.tape.tone

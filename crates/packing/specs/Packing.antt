@@ -1,6 +1,6 @@
 -- A strip as 87 numbers (f64) and 19 words (u64), part by part: each part has its own places, counted from its own start, and is read from a list that starts there.
 -- An f32 stands among the numbers as the f64 of its value. A tag or a bool is 0 or 1; a number that its tag leaves out is packed as 0, and is not looked at when it is read back. Definitions only.
-use Rattle.std.specs.Prelude.{◌≡◌, ℕ, ◌+◌, Bool, true, false, cond, not, ◌&&◌, List, [], ◌∷◌, ◌++◌, leb, eqb, length, get_or, drop, Float}
+use Rattle.std.specs.Prelude.{◌≡◌, ℕ, ◌+◌, Bool, true, false, cond, not, ◌&&◌, List, [], ◌∷◌, ◌++◌, leb, eqb, length, get_or, drop, Option, None, Some, Float}
 use Rattle.std.specs.Float.{binary64}
 use Rattle.std.specs.Float.Ieee.{to_bits}
 use Rattle.casts.specs.Arithmetic.{nought}
@@ -14,7 +14,6 @@ use Rattle.ramp.specs.declared.Ramp.{Ramp}
 use Rattle.automation.specs.declared.Tone.{Tone}
 use Rattle.automation.specs.declared.Tone.TheVariants.{Fixed, Graded}
 use Rattle.oscillators.specs.declared.Pad.{Pad}
-use Rattle.oscillators.specs.declared.Pad.TheVariants.{Without, Swell}
 use Rattle.duck.specs.declared.Duck.{Duck}
 use Rattle.tape.specs.declared.Equalizer.{Equalizer}
 use Rattle.tape.specs.declared.Tape.{Tape}
@@ -150,16 +149,16 @@ tone_fits ns tag = cond (eqb tag 0) (is_short (number_at ns 0)) (eqb tag 1 && (b
 abbrev pub pad_long : ℕ
 pad_long = 2
 
-unfoldable pub pad_numbers : Pad → List Float
-pad_numbers Without = nought ∷ nought ∷ []
-pad_numbers (Swell hz depth) = hz ∷ depth ∷ []
+unfoldable pub pad_numbers : Option Pad → List Float
+pad_numbers None = nought ∷ nought ∷ []
+pad_numbers (Some pad) = pad.hz ∷ pad.depth ∷ []
 
-abbrev pub pad_tag : Pad → ℕ
-pad_tag Without = 0
-pad_tag (Swell hz depth) = 1
+abbrev pub pad_tag : Option Pad → ℕ
+pad_tag None = 0
+pad_tag (Some pad) = 1
 
-unfoldable pub pad_from : List Float → ℕ → Pad
-pad_from ns tag = cond (eqb tag 0) Without (Swell (narrowed (number_at ns 0)) (narrowed (number_at ns 1)))
+unfoldable pub pad_from : List Float → ℕ → Option Pad
+pad_from ns tag = cond (eqb tag 0) None (Some (record { hz = narrowed (number_at ns 0); depth = narrowed (number_at ns 1) }))
 
 unfoldable pub pad_fits : List Float → ℕ → Bool
 pad_fits ns tag = cond (eqb tag 0) true (eqb tag 1 && both_short ns)

@@ -278,35 +278,32 @@ fn tone_from(numbers: &[f64], tag: u64) -> Tone
     }
 }
 
-fn pad_numbers(pad: Pad) -> [f64; PAD]
+fn pad_numbers(pad: Option<Pad>) -> [f64; PAD]
     ensures { pad_numbers pad ≡ number_at result 0 ∷ number_at result 1 ∷ [] }
 {
     match pad {
-        Pad::Without => [0.0, 0.0],
-        Pad::Swell { hz, depth } => [casts::widen(hz), casts::widen(depth)],
+        None => [0.0, 0.0],
+        Some(swell) => [casts::widen(swell.hz), casts::widen(swell.depth)],
     }
 }
 
-fn pad_tag(pad: Pad) -> u64
+fn pad_tag(pad: Option<Pad>) -> u64
     ensures { result ≡ pad_tag pad }
 {
-    match pad {
-        Pad::Without => 0,
-        Pad::Swell { hz: _, depth: _ } => 1,
-    }
+    u64::from(pad.is_some())
 }
 
-fn pad_from(numbers: &[f64], tag: u64) -> Pad
+fn pad_from(numbers: &[f64], tag: u64) -> Option<Pad>
     requires { pad_long ≤ length numbers.now }
     ensures { result ≡ pad_from numbers.now tag }
 {
     if tag == 0 {
-        return Pad::Without;
+        return None;
     }
-    Pad::Swell {
+    Some(Pad {
         hz: casts::narrow(numbers[0]),
         depth: casts::narrow(numbers[1]),
-    }
+    })
 }
 
 // ---- which numbers are an f32's

@@ -113,21 +113,21 @@ fn ok_hz(x: f32) -> bool
     ranges::in_range(0.0, 20.0, casts::widen(x))
 }
 
-fn ok_swell(hz: f32, depth: f32) -> bool
-    ensures { result ≡ ok_pad (Pad.Swell hz depth) }
+fn ok_swell(pad: Pad) -> bool
+    ensures { result ≡ ok_pad (Some pad) }
 {
-    if !ok_hz(hz) {
+    if !ok_hz(pad.hz) {
         return false;
     }
-    ok_unit_f32(depth)
+    ok_unit_f32(pad.depth)
 }
 
-fn ok_pad(pad: Pad) -> bool
+fn ok_pad(pad: Option<Pad>) -> bool
     ensures { result ≡ ok_pad pad }
 {
     match pad {
-        Pad::Without => true,
-        Pad::Swell { hz, depth } => ok_swell(hz, depth),
+        None => true,
+        Some(swell) => ok_swell(swell),
     }
 }
 

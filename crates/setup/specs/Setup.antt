@@ -1,11 +1,10 @@
 -- A setup out of eight f32 (corner or night corner, day corner, night drive, day drive, swell rate, swell depth, daylight, rain), four f64
 -- (fixed drive, gain in, gain out, send) and flags (1 graded, 2 pad, 4 rain-darkened, 8 ducked). Definitions only.
-use Rattle.std.specs.Prelude.{ℕ, ◌/◌, ◌%◌, Bool, cond, List, eqb, get_or, Float}
+use Rattle.std.specs.Prelude.{ℕ, ◌/◌, ◌%◌, Bool, cond, List, eqb, get_or, Option, None, Some, Float}
 use Rattle.std.specs.Float.{nan}
 use Rattle.automation.specs.declared.Tone.{Tone}
 use Rattle.automation.specs.declared.Tone.TheVariants.{Fixed, Graded}
 use Rattle.oscillators.specs.declared.Pad.{Pad}
-use Rattle.oscillators.specs.declared.Pad.TheVariants.{Without, Swell}
 use Rattle.tape.specs.declared.TapeSetup.{TapeSetup}
 use Rattle.strip.specs.declared.Setup.{Setup}
 
@@ -15,8 +14,8 @@ number_at xs k = get_or xs k nan
 unfoldable pub tone_of : List Float → Float → Bool → Tone
 tone_of singles drive graded = cond graded (Graded (number_at singles 0) (number_at singles 1) (number_at singles 2) (number_at singles 3)) (Fixed (number_at singles 0) drive)
 
-unfoldable pub pad_of : Float → Float → Bool → Pad
-pad_of hz depth pad = cond pad (Swell hz depth) Without
+unfoldable pub pad_of : Float → Float → Bool → Option Pad
+pad_of hz depth pad = cond pad (Some (record { hz = hz; depth = depth })) None
 
 unfoldable pub tape_setup_of : List Float → List Float → ℕ → TapeSetup
 tape_setup_of singles doubles flags =

@@ -3,44 +3,42 @@
 #![tactic(auto)]
 
 ghost use Rattle.std.specs.Prelude.{◌≡◌};
-ghost use Rattle.setup.specs.Setup.{tone_of, pad_of, tape_setup_of, setup_of};
+ghost use Rattle.setup.specs.Setup.{tone_of, tape_setup_of, setup_of};
 
 use automation::Tone;
 use oscillators::Pad;
 use strip::Setup;
 use tape::TapeSetup;
 
+#[tactic(auto, unfolding(crate::specs::Setup::tone_of))]
 fn tone_of(singles: &[f32; 8], drive: f64, graded: bool) -> Tone
     ensures { result ≡ tone_of singles.now drive graded }
 {
     if graded {
-        return Tone::Graded {
+        Tone::Graded {
             night_corner: singles[0],
             day_corner: singles[1],
             night_drive: singles[2],
             day_drive: singles[3],
-        };
-    }
-    Tone::Fixed {
-        corner: singles[0],
-        drive,
+        }
+    } else {
+        Tone::Fixed {
+            corner: singles[0],
+            drive,
+        }
     }
 }
 
-fn pad_of(hz: f32, depth: f32, pad: bool) -> Pad
-    ensures { result ≡ pad_of hz depth pad }
-{
-    if pad {
-        return Pad::Swell { hz, depth };
-    }
-    Pad::Without
-}
-
+#[tactic(auto, unfolding(crate::specs::Setup::tape_setup_of, crate::specs::Setup::pad_of))]
 pub fn tape_setup_of(singles: &[f32; 8], doubles: &[f64; 4], flags: u64) -> TapeSetup
     ensures { result ≡ tape_setup_of singles.now doubles.now flags }
 {
     let tone = tone_of(singles, doubles[0], flags % 2 == 1);
-    let pad = pad_of(singles[4], singles[5], flags / 2 % 2 == 1);
+    let swell = Pad {
+        hz: singles[4],
+        depth: singles[5],
+    };
+    let pad = (flags / 2 % 2 == 1).then_some(swell);
     TapeSetup {
         tone,
         pad,
@@ -51,6 +49,7 @@ pub fn tape_setup_of(singles: &[f32; 8], doubles: &[f64; 4], flags: u64) -> Tape
     }
 }
 
+#[tactic(auto, unfolding(crate::specs::Setup::setup_of))]
 pub fn setup_of(singles: &[f32; 8], doubles: &[f64; 4], flags: u64) -> Setup
     ensures { result ≡ setup_of singles.now doubles.now flags }
 {

@@ -1,11 +1,10 @@
 -- Document 01: "Edges: 49,151 is 1; a sample of 1,024 passes, the next f64 is 7; at position 2^32 − 1 one sample passes, two are 6; an empty run at 2^32 passes."
-use Rattle.std.specs.Prelude.{ℕ, ◌-◌, ◌≡◌, Bool, true, false, List, [], ◌∷◌, length, replicate, Float}
+use Rattle.std.specs.Prelude.{ℕ, ◌-◌, ◌≡◌, Bool, true, false, List, [], ◌∷◌, length, replicate, None, Float}
 use Rattle.std.specs.Float.{binary64}
 use Rattle.std.specs.Float.Ieee.{of_bits, neg}
 use Rattle.casts.specs.Arithmetic.{whole, nought, one}
 use Rattle.ranges.specs.Ranges.{last_position}
 use Rattle.automation.specs.declared.Tone.TheVariants.{Fixed}
-use Rattle.oscillators.specs.declared.Pad.TheVariants.{Without}
 use Rattle.tape.specs.Tape.{Lists}
 use Rattle.rate.specs.declared.Rate.{Rate}
 use Rattle.strip.specs.declared.Setup.{Setup}
@@ -21,7 +20,7 @@ past = of_bits binary64 0x4090_0000_0000_0001
 abbrev pub plain_setup : Setup
 plain_setup =
     record {
-      tape = record { tone = Fixed (whole 1000) one; pad = Without; darkened = false; input = one; output = one; ducked = false };
+      tape = record { tone = Fixed (whole 1000) one; pad = None; darkened = false; input = one; output = one; ducked = false };
       daylight = nought;
       rain = nought;
       send = one;

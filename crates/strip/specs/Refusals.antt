@@ -1,5 +1,5 @@
 -- Document 01, 'When the part declines': each ground as a test that is true where the part does not decline. Their numbers and their order, a list for each call, stand in Calls.
-use Rattle.std.specs.Prelude.{ℕ, ◌+◌, ◌*◌, Bool, true, ◌&&◌, List, leb, eqb, length, Float}
+use Rattle.std.specs.Prelude.{ℕ, ◌+◌, ◌*◌, Bool, true, ◌&&◌, List, leb, eqb, length, Option, None, Some, Float}
 use Rattle.std.specs.Float.{binary64}
 use Rattle.std.specs.Float.Ieee.{of_bits, neg}
 use Rattle.casts.specs.Arithmetic.{whole, nought, one}
@@ -8,7 +8,6 @@ use Rattle.ramp.specs.declared.Ramp.{Ramp}
 use Rattle.automation.specs.declared.Tone.{Tone}
 use Rattle.automation.specs.declared.Tone.TheVariants.{Fixed, Graded}
 use Rattle.oscillators.specs.declared.Pad.{Pad}
-use Rattle.oscillators.specs.declared.Pad.TheVariants.{Without, Swell}
 use Rattle.tape.specs.declared.TapeSetup.{TapeSetup}
 use Rattle.tape.specs.Tape.{Lists}
 use Rattle.rate.specs.declared.Rate.{Rate}
@@ -38,9 +37,9 @@ ok_tone (Fixed corner drive) = ok_corner corner && ok_drive drive
 ok_tone (Graded nightCorner dayCorner nightDrive dayDrive) = ok_corner nightCorner && (ok_corner dayCorner && (ok_drive nightDrive && ok_drive dayDrive))
 
 -- "optional pad with swell rate 0 to 20 Hz and depth 0 to 1 (f32)"
-unfoldable pub ok_pad : Pad → Bool
-ok_pad Without = true
-ok_pad (Swell hz depth) = in_range nought (whole 20) hz && ok_unit depth
+unfoldable pub ok_pad : Option Pad → Bool
+ok_pad None = true
+ok_pad (Some pad) = in_range nought (whole 20) pad.hz && ok_unit pad.depth
 
 -- "gains in and out 0 to 16"
 unfoldable pub ok_gain : Float → Bool

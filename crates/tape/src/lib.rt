@@ -26,7 +26,7 @@ use sidechain::DuckRate;
 #[derive(Clone, Copy)]
 pub struct TapeSetup {
     pub tone: Tone,
-    pub pad: Pad,
+    pub pad: Option<Pad>,
     pub darkened: bool,
     // gain in and gain out
     pub input: f64,

@@ -1,10 +1,10 @@
 use Rattle.oscillators.specs.Oscillators.{swell_of}
 use Rattle.oscillators.proofs.swell.Goals as goal
 
-pub returns-in-Without : goal.returns-in-Without
+pub returns-in-None : goal.returns-in-None
 unfolding swell_of
-returns-in-Without c = cc
+returns-in-None c = cc
 
-pub returns-in-Swell : goal.returns-in-Swell
+pub returns-in-Some : goal.returns-in-Some
 unfolding swell_of
-returns-in-Swell c = rw (c.swell_by.ensures, c.sin.ensures, c.phase.ensures, c.in-Swell.is)
+returns-in-Some c = rw (c.swell_by.ensures, c.sin.ensures, c.phase.ensures, c.in-Some.is, c.in-Some.field-0-is)

@@ -1,10 +1,10 @@
 use Rattle.oscillators.specs.Oscillators.{swell_of}
 use Rattle.oscillators.proofs.swell_eight.Goals as goal
 
-pub returns-in-Without : goal.returns-in-Without
+pub returns-in-None : goal.returns-in-None
 unfolding swell_of
-returns-in-Without c = rw (c.all_of.ensures, c.in-Without.is)
+returns-in-None c = rw (c.all_of.ensures, c.in-None.is)
 
-pub returns-in-Swell : goal.returns-in-Swell
+pub returns-in-Some : goal.returns-in-Some
 unfolding swell_of
-returns-in-Swell c = rw (c.swells_by.ensures, c.sin_eight.ensures, c.phases.ensures, c.in-Swell.is)
+returns-in-Some c = rw (c.swells_by.ensures, c.sin_eight.ensures, c.phases.ensures, c.in-Some.is, c.in-Some.field-0-is)

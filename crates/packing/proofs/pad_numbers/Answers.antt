@@ -1,10 +1,10 @@
 use Rattle.packing.specs.Packing.{pad_numbers}
 use Rattle.packing.proofs.pad_numbers.Goals as goal
 
-pub returns-in-Without : goal.returns-in-Without
+pub returns-in-None : goal.returns-in-None
 unfolding pad_numbers
-returns-in-Without c = rw c.in-Without.is
+returns-in-None c = rw c.in-None.is
 
-pub returns-in-Swell : goal.returns-in-Swell
+pub returns-in-Some : goal.returns-in-Some
 unfolding pad_numbers
-returns-in-Swell c = rw (c.in-Swell.is, c.widen.ensures, c.widen-in-Swell.ensures)
+returns-in-Some c = rw (c.in-Some.is, c.widen.ensures, c.widen-in-Some.ensures)

@@ -2,6 +2,6 @@
 use Rattle.strip.specs.Refusals.{ok_pad}
 use Rattle.refusals.proofs.ok_pad.Goals as goal
 
-pub returns-in-Without : goal.returns-in-Without
+pub returns-in-None : goal.returns-in-None
 unfolding ok_pad
-returns-in-Without c = rw c.in-Without.is
+returns-in-None c = rw c.in-None.is
