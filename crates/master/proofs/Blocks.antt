@@ -49,7 +49,6 @@ abbrev want : CeilingRate → ℕ → CeilingIn → List Float → List Float �
 want r n s₀ ls rs = outs (ceiling_step_on r) n s₀ (frames_in ls rs)
 
 pub record Running (r : CeilingRate) (n : ℕ) (s₀ : CeilingIn) (ls rs : List Float) (s : CeilingIn) (frames : List Float) (gains : List ℕ) (i : ℕ) : Type 0 where
-  pub within : i ≤ length ls
   pub ready : Ready r s
   pub gone : Gone (ceiling_step_on r) n s₀ (frames_in ls rs) s i
   pub framed : Wrote (frames_out (want r n s₀ ls rs)) frames (2 * i)
@@ -75,7 +74,6 @@ module _ (r : CeilingRate) (usable : Usable r) (n : ℕ) (s₀ : CeilingIn) (ls 
   pub block_start : (frames : List Float) (gains : List ℕ) → Ready r s₀ → length frames ≡ 2 * length ls → length gains ≡ length ls → Running r n s₀ ls rs s₀ frames gains 0
   block_start frames gains y e g =
       record {
-        within = omega arith;
         ready = y;
         gone = gone_start (ceiling_step_on r) n s₀ (frames_in ls rs);
         framed = wrote_start (frames_out hs) frames (e ∙ sym want_frames);
@@ -104,7 +102,6 @@ module _ (r : CeilingRate) (usable : Usable r) (n : ℕ) (s₀ : CeilingIn) (ls 
       (omega (arith, want_frames)) (out_right hs i nan o.out w ∙ ap (λ (x : Heard). x.right) out)) in
       let g = gone_write_of (ceiling_step_on r) n s₀ (frames_in ls rs) s i d o p.gone h' q (λ (x : Heard). x.count) gains p.gained in
       record {
-        within = omega arith;
         ready = subst (λ (x : Step CeilingIn Heard). Ready r x.next) (sym e) (ready_next r usable (n + i) s (record { left = get_or ls i nan; right = get_or rs i nan }) p.ready);
         gone = gone_turn (ceiling_step_on r) n s₀ (frames_in ls rs) s i d o p.gone h' q;
         framed = f;

@@ -1,5 +1,5 @@
 -- The loops and the returns of `well_formed`. Assumes nothing.
-use Rattle.std.proofs.Common.{◌≡◌, ℕ, zero, suc, ◌+◌, ◌-◌, ◌*◌, ◌/◌, ◌%◌, ◌^◌, ◌<◌, ◌≤◌, Bool, true, false, ◌&&◌, T, eqb, leb, List, [], ◌∷◌, ◌++◌, length, get_or, take, drop, sym, refl, ap, ◌∙◌, subst, add-zero, add-suc, mul-le-mul_right, mod-eq_of_lt, zero-add, add-one, arith, leb→le, length-drop, get_or-drop, take-suc, le-ltb, lt-ltb, eq-eqb, ne_eqb, le-leb}
+use Rattle.std.proofs.Common.{◌≡◌, ℕ, zero, suc, ◌+◌, ◌-◌, ◌*◌, ◌/◌, ◌%◌, ◌<◌, ◌≤◌, Bool, true, false, ◌&&◌, T, eqb, leb, List, [], ◌∷◌, ◌++◌, length, get_or, take, drop, sym, refl, ap, ◌∙◌, subst, add-zero, add-suc, mod-eq_of_lt, arith, leb→le, length-drop, get_or-drop, take-suc, eq-eqb, ne_eqb, le-leb}
 use mathlib.Core.Bool.{and-true, and_assoc}
 use native.Mathlib.Nat.{add-mod_left}
 use native.Mathlib.Decide.{dec_lt}
@@ -7,12 +7,13 @@ use borrow.Author.Tests.{lt-leb}
 use lib.Ieee.{Float, nan}
 use Rattle.casts.specs.Arithmetic.{nought, one}
 use Rattle.ranges.specs.Ranges.{all_in_range}
-use Rattle.rate.specs.declared.CeilingRate.{CeilingRate}
 use Rattle.rate.specs.Ceiling.{unit}
-use Rattle.master.specs.Kept.{CeilingIn, places_of}
-use Rattle.master.specs.WellFormed.{in_unit, every, needs_in, steps_in, sum_at, well_formed}
-use Rattle.master.proofs.Ready.{every_at}
-use Rattle.master.proofs.Stays.{sum_le}
+use Rattle.master.specs.WellFormed.{in_unit, every, needs_in, steps_in, sum_at}
+use Rattle.std.proofs.Common.{mod-lt, length-take-le, get_or-take}
+use Rattle.std.proofs.lemmas.List.Folds.{sum_by-zero, list_all-append}
+use Rattle.std.proofs.lemmas.List.Sums.{sum_by-le, sum_by_push, AllPass-from_list_all}
+use Rattle.std.proofs.lemmas.List.Elements.{All-weaker}
+use Rattle.std.specs.List.{sum, sum_by, list_all}
 
 pub every_none : (t : ℕ → Bool) → every t 0 ≡ true
 unfolding every
@@ -35,24 +36,36 @@ unfolding every
 every_split t a zero = rw (add-zero a) (sym (and-true (every t a)))
 every_split t a (suc b) = rw (add-suc a b, every_split t a b, and_assoc (every t a))
 
-module _ (l : List Float) (P head len : ℕ) (fits : P ≤ length l) (h : head < P) where
-  low : (k : ℕ) → head + k ≤ P → every (λ j. in_unit (get_or l ((head + j) % P) nan)) k ≡ all_in_range nought one (take k (drop head l))
-  low k e =
-      every_part (λ j. in_unit (get_or l ((head + j) % P) nan)) (drop head l) k (rw (length-drop head l) (omega arith))
-      (λ j g. rw (get_or-drop head l j nan, mod-eq_of_lt {n = head + j} {m = P} (omega arith)))
+every_same : (t u : ℕ → Bool) (k : ℕ) → ((j : ℕ) → j < k → t j ≡ u j) → every t k ≡ every u k
+unfolding every
+every_same t u zero h = refl
+every_same t u (suc k) h = rw (h k (omega arith), every_same t u k (λ j g. h j (omega arith)))
 
-  pub needs_low : head + len ≤ P → all_in_range nought one (take (head + len - head) (drop head l)) ≡ needs_in l P head len
+module _ (l : List Float) (head len : ℕ) (h : head < length l) where
+  abbrev queued : ℕ → Bool
+  queued j = in_unit (get_or l ((head + j) % length l) nan)
+
+  low : (k : ℕ) → head + k ≤ length l → every queued k ≡ all_in_range nought one (take k (drop head l))
+  low k e =
+      every_part queued (drop head l) k (rw (length-drop head l) (omega arith))
+      (λ j g. rw (get_or-drop head l j nan, mod-eq_of_lt {n = head + j} {m = length l} (omega arith)))
+
+  pub needs_low : head + len ≤ length l → all_in_range nought one (take (head + len - head) (drop head l)) ≡ needs_in l (length l) head len
   needs_low e = let q : head + len - head ≡ len = omega arith in rw q (sym (low len e))
 
-  pub needs_around : P < head + len → len ≤ P → needs_in l P head len ≡ (all_in_range nought one (take (P - head) (drop head l)) && all_in_range nought one (take (head + len - P) l))
+  pub needs_around : length l < head + len → len ≤ length l → needs_in l (length l) head len ≡ (all_in_range nought one (take (length l - head) (drop head l)) && all_in_range nought one (take (head + len - length l) l))
   needs_around e s =
-      let q : len ≡ (P - head) + (head + len - P) = omega arith in
-      ap (every (λ j. in_unit (get_or l ((head + j) % P) nan))) q
-      ∙ every_split (λ j. in_unit (get_or l ((head + j) % P) nan)) (P - head) (head + len - P)
-      ∙ rw (low (P - head) (omega arith), every_part (λ j. in_unit (get_or l ((head + (P - head + j)) % P) nan)) l (head + len - P) (omega arith) round)
+      let q : len ≡ (length l - head) + (head + len - length l) = omega arith in
+      ap (every queued) q
+      ∙ every_split queued (length l - head) (head + len - length l)
+      ∙ rw (low (length l - head) (omega arith), every_part (λ j. queued (length l - head + j)) l (head + len - length l) (omega arith) round)
     where
-      round : (j : ℕ) → j < head + len - P → in_unit (get_or l ((head + (P - head + j)) % P) nan) ≡ in_unit (get_or l j nan)
-      round j g = ap (λ (i : ℕ). in_unit (get_or l i nan)) (let r : head + (P - head + j) ≡ P + j = omega arith in rw (r, add-mod_left P j) (mod-eq_of_lt {n = j} {m = P} (omega arith)))
+      round : (j : ℕ) → j < head + len - length l → queued (length l - head + j) ≡ in_unit (get_or l j nan)
+      round j g = ap (λ (i : ℕ). in_unit (get_or l i nan)) (let r : head + (length l - head + j) ≡ length l + j = omega arith in rw (r, add-mod_left (length l) j) (mod-eq_of_lt {n = j} {m = length l} (omega arith)))
+
+-- the queue's places alone
+pub needs_part : (l : List Float) (P head len : ℕ) → P ≤ length l → head < P → needs_in (take P l) (length (take P l)) head len ≡ needs_in l P head len
+needs_part l P head len h g = rw (length-take-le P l h) (every_same _ _ len (λ j e. ap in_unit (get_or-take P l ((head + j) % P) nan (mod-lt _ (omega arith)))))
 
 -- ---- the steps, by a sum that is 0 where none is above
 
@@ -62,39 +75,30 @@ above_test x = elim (dec_lt 1099511627776 x) [
   | no h ↦ eq-eqb ((x - x / 1099511627776) / 1099511627776) 0 (omega arith) ∙ sym (le-leb x 1099511627776 (omega arith))
 ]
 
-eqb_add : (a b : ℕ) → eqb (a + b) 0 ≡ (eqb a 0 && eqb b 0)
-eqb_add zero b = rw (zero-add b)
-eqb_add (suc a) b = rw (ne_eqb (suc a + b) 0 (λ e. omega arith), ne_eqb (suc a) 0 (λ e. omega arith))
-
-pub steps_more : (l : List ℕ) (b k s v : ℕ) → eqb s 0 ≡ steps_in l b k → eqb v 0 ≡ leb (get_or l (b + k) 0) unit → eqb (s + v) 0 ≡ steps_in l b (k + 1)
-unfolding every
-steps_more l b k s v e f = rw (add-one k, eqb_add s v, e, f)
-
-pub steps_all : (l : List ℕ) (b n k s : ℕ) → k ≤ n → n ≤ k → eqb s 0 ≡ steps_in l b k → eqb s 0 ≡ steps_in l b n
-steps_all l b n k s h g e = let q : k ≡ n = omega arith in e ∙ ap (steps_in l b) q
-
-pub sum_none : (l : List ℕ) (b : ℕ) → 0 ≡ sum_at l b 0
-unfolding sum_at
-sum_none l b = refl
-
-pub sum_more : (l : List ℕ) (b k s : ℕ) → s ≡ sum_at l b k → s + get_or l (b + k) 0 ≡ sum_at l b (k + 1)
-unfolding sum_at
-sum_more l b k s e = rw (add-one k, e)
-
-pub sum_all : (l : List ℕ) (b n k s : ℕ) → k ≤ n → n ≤ k → s ≡ sum_at l b k → s ≡ sum_at l b n
-sum_all l b n k s h g e = let q : k ≡ n = omega arith in e ∙ ap (sum_at l b) q
-
-pub sum_fits : (l : List ℕ) (b n k s : ℕ) → T (steps_in l b n) → n ≤ 65535 → k < n → s ≡ sum_at l b k → s + get_or l (b + k) 0 < 2 ^ 64
-sum_fits l b n k s t h g e =
-    let few : k ≤ 65535 = omega arith in
-    small s (get_or l (b + k) 0) (k * unit)
-    (subst (λ (x : ℕ). x ≤ k * unit) (sym e) (sum_le l b k unit (λ j q. at j (omega arith)))) (at k g) (mul-le-mul_right unit few)
+pub over_none : (l : List ℕ) → eqb (sum_by (λ x. (x - x / 1099511627776) / 1099511627776) l) 0 ≡ list_all (λ x. leb x unit) l
+over_none l = sum_by-zero (λ x. (x - x / 1099511627776) / 1099511627776) l ∙ go l
   where
-    at : (j : ℕ) → j < n → get_or l (b + j) 0 ≤ unit
-    at j q = leb→le (get_or l (b + j) 0) unit (every_at (λ i. leb (get_or l (b + i) 0) unit) n j t q)
+    go : (l : List ℕ) → list_all (λ x. eqb ((x - x / 1099511627776) / 1099511627776) 0) l ≡ list_all (λ x. leb x unit) l
+    go [] = refl
+    go (x ∷ l) = rw (above_test x, go l)
 
-    small : (s x m : ℕ) → s ≤ m → x ≤ 1099511627776 → m ≤ 65535 * 1099511627776 → s + x < 2 ^ 64
-    small s x m a b c = omega arith
+pub sum_small : (l : List ℕ) → list_all (λ x. leb x unit) l ≡ true → sum l ≤ length l * unit
+sum_small l h = sum_by-le (λ x. x) unit l (All-weaker (λ x. leb x unit ≡ true) (λ x. x ≤ unit) (λ x e. leb→le x unit (subst T (sym e) tt)) l (AllPass-from_list_all (λ x. leb x unit) l h))
+
+-- the steps by their places, and as the list of them
+pub steps_part : (l : List ℕ) (b k : ℕ) → b + k ≤ length l → list_all (λ x. leb x unit) (take k (drop b l)) ≡ steps_in l b k
+unfolding every
+steps_part l b zero h = refl
+steps_part l b (suc k) h =
+    let g : k < length (drop b l) = rw (length-drop b l) (omega arith) in
+    rw (take-suc (drop b l) k 0 g, list_all-append (λ x. leb x unit), steps_part l b k (omega arith), get_or-drop b l k 0) (ap (λ (x : Bool). steps_in l b k && x) (and-true (leb (get_or l (b + k) 0) unit)))
+
+pub sum_part : (l : List ℕ) (b k : ℕ) → b + k ≤ length l → sum (take k (drop b l)) ≡ sum_at l b k
+unfolding sum_at
+sum_part l b zero h = refl
+sum_part l b (suc k) h =
+    let g : k < length (drop b l) = rw (length-drop b l) (omega arith) in
+    rw (take-suc (drop b l) k 0 g, sum_by_push (λ x. x) (take k (drop b l)) (get_or (drop b l) k 0), sum_part l b k (omega arith), get_or-drop b l k 0)
 
 -- ---- a chain of tests
 pub pass : (z x v : Bool) → z ≡ true → v ≡ x → v ≡ (z && x)
@@ -103,41 +107,10 @@ pass z x v p q = rw p q
 pub stop : (z x : Bool) → z ≡ false → false ≡ (z && x)
 stop z x p = rw p
 
--- ---- the returns of `well_formed`
-module _ (r : CeilingRate) (k : CeilingIn) where
-  pub tests_head : places_of r ≤ k.ceiling.head → false ≡ well_formed r k
-  unfolding well_formed
-  tests_head h = stop _ _ (le-ltb k.ceiling.head (places_of r) h)
-
-  module _ (h : k.ceiling.head < places_of r) where
-    pub tests_len : places_of r < k.ceiling.len → false ≡ well_formed r k
-    unfolding well_formed
-    tests_len l = pass _ _ _ (lt-ltb k.ceiling.head (places_of r) h) (stop _ _ (lt-leb k.ceiling.len (places_of r) l))
-
-    module _ (l : k.ceiling.len ≤ places_of r) where
-      pub tests_released : in_unit k.ceiling.released ≡ false → false ≡ well_formed r k
-      unfolding well_formed
-      tests_released b =
-          pass _ _ _ (lt-ltb k.ceiling.head (places_of r) h) (pass _ _ _ (le-leb k.ceiling.len (places_of r) l) (stop (in_unit k.ceiling.released) _ b))
-
-      module _ (b : in_unit k.ceiling.released ≡ true) where
-        pub tests_needs : needs_in k.samples (places_of r) k.ceiling.head k.ceiling.len ≡ false → false ≡ well_formed r k
-        unfolding well_formed
-        tests_needs c =
-            pass _ _ _ (lt-ltb k.ceiling.head (places_of r) h)
-            (pass _ _ _ (le-leb k.ceiling.len (places_of r) l) (pass (in_unit k.ceiling.released) _ _ b (stop (needs_in k.samples (places_of r) k.ceiling.head k.ceiling.len) _ c)))
-
-        module _ (c : needs_in k.samples (places_of r) k.ceiling.head k.ceiling.len ≡ true) where
-          pub tests_steps : steps_in k.counts (places_of r) (r.ahead + 1) ≡ false → false ≡ well_formed r k
-          unfolding well_formed
-          tests_steps d =
-              pass _ _ _ (lt-ltb k.ceiling.head (places_of r) h)
-              (pass _ _ _ (le-leb k.ceiling.len (places_of r) l)
-              (pass (in_unit k.ceiling.released) _ _ b (pass (needs_in k.samples (places_of r) k.ceiling.head k.ceiling.len) _ _ c (stop (steps_in k.counts (places_of r) (r.ahead + 1)) _ d))))
-
-          pub tests_count : (s : ℕ) → steps_in k.counts (places_of r) (r.ahead + 1) ≡ true → s ≡ sum_at k.counts (places_of r) (r.ahead + 1) → eqb k.ceiling.count s ≡ well_formed r k
-          unfolding well_formed
-          tests_count s d e =
-              pass _ _ _ (lt-ltb k.ceiling.head (places_of r) h)
-              (pass _ _ _ (le-leb k.ceiling.len (places_of r) l)
-              (pass (in_unit k.ceiling.released) _ _ b (pass (needs_in k.samples (places_of r) k.ceiling.head k.ceiling.len) _ _ c (pass (steps_in k.counts (places_of r) (r.ahead + 1)) _ _ d (ap (eqb k.ceiling.count) e)))))
+-- ---- `well_formed`, by what the code tests
+pub counted_part : (l : List ℕ) (P e k count : ℕ) → e ≡ P + k → e ≤ length l
+    → (list_all (λ x. leb x unit) (take (e - P) (drop P l)) && eqb count (sum (take (e - P) (drop P l)))) ≡ (steps_in l P k && eqb count (sum_at l P k))
+counted_part l P e k count q h =
+    let m : e - P ≡ k = omega arith in
+    let g : P + k ≤ length l = omega arith in
+    rw (m, steps_part l P k g, sum_part l P k g) refl

@@ -14,20 +14,41 @@ use Rattle.master.proofs.Bound.{gain_one}
 use Rattle.master.proofs.Ready.{Ready, of_ready}
 use Rattle.master.proofs.Stays.{ready_ran}
 use Rattle.master.proofs.Refines.{Fresh, same_heard}
+use Rattle.std.proofs.lemmas.List.{take-append-drop, length-replicate, replicate_more}
+use Rattle.std.proofs.Math.ListN.{replicate}
+use Rattle.std.proofs.Math.Seq.{set-append_seam}
+use borrow.Rule.Slice.PartMut.{put_mid}
+use native.Mathlib.Nat.{add-sub_cancel_left}
+use Rattle.std.proofs.Common.{◌-◌, drop-drop, length-drop, zero-add, ◌++◌, ◌∷◌, [], take, drop, append_assoc, drop-cons, add-zero, add-suc, length-append, length-take-le}
 
 pub filled_length : {A : Type 0} (l : List A) (b k : ℕ) (v : A) → length (filled l b k v) ≡ length l
 unfolding filled
 filled_length l b zero v = refl
 filled_length l b (suc k) v = length-set (filled l b k v) (b + k) v ∙ filled_length l b k v
 
-pub filled_none : {A : Type 0} (l : List A) (b : ℕ) (v : A) → l ≡ filled l b 0 v
+-- ---- parts that `fill` filled
+filled_fill : {A : Type 0} (l : List A) (b k : ℕ) (v : A) → b + k ≤ length l → take b l ++ (replicate k v ++ drop (b + k) l) ≡ filled l b k v
 unfolding filled
-filled_none l b v = refl
+filled_fill l b zero v h = rw add-zero (take-append-drop b l)
+filled_fill {A = A} l b (suc k) v h =
+    let m : b + k < length l = omega arith in
+    let xs = take b l ++ replicate k v in
+    let long : length xs ≡ b + k = length-append (take b l) (replicate k v) ∙ rw (length-take-le b l (omega arith), length-replicate k v) in
+    let seam : set (xs ++ get_or l (b + k) v ∷ drop (suc (b + k)) l) (b + k) v ≡ xs ++ v ∷ drop (suc (b + k)) l = subst (λ (n : ℕ). set (xs ++ get_or l (b + k) v ∷ drop (suc (b + k)) l) n v ≡ xs ++ v ∷ drop (suc (b + k)) l) long (set-append_seam xs (get_or l (b + k) v) (drop (suc (b + k)) l) v) in
+    let more : xs ++ v ∷ drop (suc (b + k)) l ≡ take b l ++ (replicate (suc k) v ++ drop (b + suc k) l) =
+    rw (append_assoc, add-suc b k) (ap (λ (ys : List A). take b l ++ ys) (sym (append_assoc (replicate k v) (v ∷ []) (drop (suc (b + k)) l)) ∙ ap (λ (ys : List A). ys ++ drop (suc (b + k)) l) (replicate_more k v ∙ ap (λ (n : ℕ). replicate n v) (add-one k)))) in
+    sym (ap (λ (ys : List A). set ys (b + k) v) (sym (filled_fill l b k v (omega arith)) ∙ ap (λ (ys : List A). take b l ++ (replicate k v ++ ys)) (drop-cons l (b + k) v m) ∙ sym (append_assoc (take b l) (replicate k v) (get_or l (b + k) v ∷ drop (suc (b + k)) l))) ∙ seam ∙ more)
 
--- a turn of a loop that fills
-pub filled_more : {A : Type 0} (l s : List A) (b k : ℕ) (v : A) → s ≡ filled l b k v → set s (b + k) v ≡ filled l b (k + 1) v
-unfolding filled
-filled_more l s b k v e = rw (add-one k, e)
+pub filled_front : {A : Type 0} (l new : List A) (k : ℕ) (v : A) → k ≤ length l → new ≡ replicate (length (take k l)) v → new ++ drop k l ≡ filled l 0 k v
+filled_front l new k v h e =
+    let z : 0 + k ≡ k = zero-add k in
+    let g : 0 + k ≤ length l = omega arith in
+    rw (e, length-take-le k l h) (rw z at (filled_fill l 0 k v g))
+
+pub filled_mid : {A : Type 0} (l new : List A) (b k : ℕ) (v : A) → b + k ≤ length l → new ≡ replicate (length (take (b + k - b) (drop b l))) v → put_mid b (b + k - b) l new ≡ filled l b k v
+filled_mid l new b k v h e =
+    let g : k ≤ length (drop b l) = rw (length-drop b l) (omega arith) in
+    rw (e, add-sub_cancel_left, length-take-le k (drop b l) g, drop-drop) (filled_fill l b k v h)
 
 filled_in : {A : Type 0} (l : List A) (b k : ℕ) (v d : A) (j : ℕ) → j < k → b + k ≤ length l → get_or (filled l b k v) (b + j) d ≡ v
 unfolding filled

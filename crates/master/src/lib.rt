@@ -2,7 +2,8 @@
 // Uses casts (widen, narrow, whole part), ranges, stream (Frame), delay (a line at rest), rate (CeilingRate), and stage in specs and proofs.
 #![tactic(auto)]
 
-ghost use Rattle.std.specs.Prelude.{◌≡◌, ◌+◌, ◌-◌, ◌*◌, ◌/◌, ◌%◌, ◌<◌, ◌≤◌, T, length, get_or, ◌==◌, nat_le, slice_index, slice_index_or, slice_set};
+ghost use Rattle.std.specs.Prelude.{◌≡◌, ◌+◌, ◌-◌, ◌*◌, ◌/◌, ◌%◌, ◌<◌, ◌≤◌, T, length, get_or, ◌==◌, ◌&&◌, nat_le, sum, slice_index, slice_index_or, slice_set};
+ghost use Rattle.std.specs.List.{list_all};
 ghost use Rattle.std.specs.Float.{nan};
 ghost use Rattle.std.specs.Float.Ieee.{le};
 ghost use Rattle.casts.specs.Arithmetic.{◌⊗◌, size_of};
@@ -45,6 +46,7 @@ pub struct Turn {
 
 // ---- a frame's need
 
+#[tactic(auto, unfolding(casts::specs::Arithmetic::size_of))]
 fn size(x: f64) -> f64
     ensures { result ≡ size_of x }
 {
@@ -52,16 +54,15 @@ fn size(x: f64) -> f64
 }
 
 // The larger of two sizes, a NaN one ignored.
+#[tactic(auto, unfolding(crate::specs::Ceiling::larger_of))]
 fn larger(a: f64, b: f64) -> f64
     ensures { result ≡ larger_of a b }
 {
-    if a < b {
-        return b;
-    }
-    if a != a { b } else { a }
+    if a < b || a.is_nan() { b } else { a }
 }
 
 // The gain that a frame needs to keep under the limit.
+#[tactic(auto, unfolding(crate::specs::Ceiling::need_of, crate::specs::Ceiling::need_for, crate::specs::Ceiling::peak_of))]
 fn need(rate: CeilingRate, f: Frame) -> f64
     ensures { result ≡ need_of rate f }
 {
@@ -81,22 +82,19 @@ fn wrapped(i: usize, places: usize) -> usize
 }
 
 // How many of the queue's needs stay before a new one: those at its back that the new one undercuts or equals go.
-fn pops(samples: &[f64], places: usize, head: usize, len: usize, need: f64) -> usize
-    requires places_in_bounds { (places ≤ length samples.now) × (places ≤ 65535) }
-    requires head_lt_places { (head < places) × (len ≤ places) }
-    ensures value { result ≡ pop_len le places head (λ i. get_or samples.now i nan) need len }
+fn pops(ring: &[f64], head: usize, len: usize, need: f64) -> usize
+    requires short { length ring.now ≤ 65535 }
+    requires head_lt_places { (head < length ring.now) × (len ≤ length ring.now) }
+    ensures value { result ≡ pop_len le (length ring.now) head (λ i. get_or ring.now i nan) need len }
     ensures upper_bound { result ≤ len }
 {
-    let mut k = len;
-    while 0 < k {
-        let i = wrapped(head + (k - 1), places);
-        if need <= samples[i] {
-            k -= 1;
-        } else {
-            return k;
+    for k in (0..len).rev() {
+        let i = wrapped(head + k, ring.len());
+        if !(need <= ring[i]) {
+            return k + 1;
         }
     }
-    k
+    0
 }
 
 // Whether the head goes, with len needs queued: the frames from its own to this one are more than the window, or the ring is over-full.
@@ -104,21 +102,7 @@ fn head_goes(window: usize, n: u64, number: u64, len: usize) -> bool
     requires { (window < 65535) × (n < last_position) }
     ensures { result ≡ drops window (window + 1) n number len }
 {
-    if window + 1 < len {
-        return true;
-    }
-    if n < number {
-        return false;
-    }
-    let frames = n - number + 1;
-    let w = window as u64;
-    w < frames
-}
-
-#[derive(Clone, Copy)]
-struct Queue {
-    head: usize,
-    len: usize,
+    window + 1 < len || number <= n && (window as u64) < n - number + 1
 }
 
 // The need of the frame n comes to the queue.
@@ -129,30 +113,30 @@ fn enqueue(
     counts: &mut [u64],
     n: u64,
     need: f64,
-) -> Queue
+) -> Ceiling
     requires usable { Usable rate }
     requires sized { Sized rate samples.old counts.old }
     requires queue_and_position_bounds { (c.head < places_of rate) × (c.len ≤ places_of rate) × (n < last_position) }
-    ensures head { result.head ≡ head_after rate n (ceiling_on c samples.old counts.old) need }
-    ensures len { result.len ≡ len_after rate n (ceiling_on c samples.old counts.old) need }
+    ensures queue { result ≡ record c { head = head_after rate n (ceiling_on c samples.old counts.old) need; len = len_after rate n (ceiling_on c samples.old counts.old) need } }
     ensures samples { samples.new ≡ needs_after rate (ceiling_on c samples.old counts.old) need }
     ensures counts { counts.new ≡ numbers_after rate n (ceiling_on c samples.old counts.old) need }
 {
-    let window = rate.window;
-    let places = window + 1;
-    let head = c.head;
-    let k = pops(samples, places, head, c.len, need);
-    let i = wrapped(head + k, places);
+    let places = rate.window + 1;
+    let staying = pops(&samples[..places], c.head, c.len, need);
+    let i = wrapped(c.head + staying, places);
     samples[i] = need;
     counts[i] = n;
-    let number = counts[head];
-    if head_goes(window, n, number, k + 1) {
-        return Queue {
-            head: wrapped(head + 1, places),
-            len: k,
+    if head_goes(rate.window, n, counts[c.head], staying + 1) {
+        return Ceiling {
+            head: wrapped(c.head + 1, places),
+            len: staying,
+            ..c
         };
     }
-    Queue { head, len: k + 1 }
+    Ceiling {
+        len: staying + 1,
+        ..c
+    }
 }
 
 // ---- the gain
@@ -165,11 +149,14 @@ fn release(samples: &[f64], head: usize, before: f64, rise: f64) -> f64
     casts::lesser(samples[head], before * rise)
 }
 
+// CeilingRate::UNIT as an f64, which a constant cannot be cast to.
+const UNIT: f64 = 1099511627776.0;
+
 // A gain in whole steps.
 fn steps(x: f64) -> u64
     ensures { result ≡ step_of x }
 {
-    casts::whole_part(x * 1099511627776.0)
+    casts::whole_part(x * UNIT)
 }
 
 // The step of the frame n takes the oldest one's place, and the count that follows is returned.
@@ -187,6 +174,7 @@ fn renew(rate: CeilingRate, n: u64, count: u64, counts: &mut [u64], s: u64) -> u
 }
 
 // The gain that a count of steps comes to.
+#[tactic(auto, unfolding(crate::specs::Ceiling::gain_of))]
 fn gain(rate: CeilingRate, count: u64) -> f64
     requires { rate.ahead < 65535 }
     ensures { result ≡ gain_of rate count }
@@ -212,26 +200,32 @@ fn delay(rate: CeilingRate, n: u64, samples: &mut [f64], f: Frame) -> Frame
 }
 
 // x narrowed, and clamped to the limit.
+#[tactic(auto, unfolding(crate::specs::Ceiling::clamped))]
 fn clamp(limit: f32, x: f64) -> f32
     ensures { result ≡ clamped limit (narrowed x) }
 {
     let y = casts::narrow(x);
     if y < -limit {
-        return -limit;
+        -limit
+    } else if limit < y {
+        limit
+    } else {
+        y
     }
-    if limit < y { limit } else { y }
 }
 
 // A late frame, played at the gain that a count comes to.
+#[tactic(auto, unfolding(crate::specs::Ceiling::delivered, crate::specs::Ceiling::multiplied))]
 fn play(rate: CeilingRate, count: u64, late: Frame) -> Heard
     requires { rate.ahead < 65535 }
     ensures { result ≡ delivered rate (multiplied rate count late) }
 {
-    let g = gain(rate, count);
-    let limit = rate.limit;
-    let left = clamp(limit, late.left * g);
-    let right = clamp(limit, late.right * g);
-    Heard { left, right, count }
+    let gain = gain(rate, count);
+    Heard {
+        left: clamp(rate.limit, late.left * gain),
+        right: clamp(rate.limit, late.right * gain),
+        count,
+    }
 }
 
 // ---- one frame, and a block of them
@@ -252,22 +246,17 @@ pub fn step(
     ensures { gave result.ceiling samples.new counts.new result.heard ≡ ceiling_step_on rate n (ceiling_on c samples.old counts.old) f }
 {
     let wanted = need(rate, f);
-    let q = enqueue(rate, c, samples, counts, n, wanted);
-    let head = q.head;
-    let len = q.len;
-    let released = release(samples, head, c.released, rate.rise);
-    let s = steps(released);
-    let count = renew(rate, n, c.count, counts, s);
+    let queued = enqueue(rate, c, samples, counts, n, wanted);
+    let released = release(samples, queued.head, c.released, rate.rise);
+    let count = renew(rate, n, c.count, counts, steps(released));
     let late = delay(rate, n, samples, f);
-    let heard = play(rate, count, late);
     Turn {
         ceiling: Ceiling {
             released,
             count,
-            head,
-            len,
+            ..queued
         },
-        heard,
+        heard: play(rate, count, late),
     }
 }
 
@@ -293,8 +282,7 @@ pub fn block(
     ensures gains_after { gains.new ≡ counts_out (outs (ceiling_step_on rate) n (ceiling_on c samples.old counts.old) (frames_in left.now right.now)) }
 {
     let mut c = c;
-    let mut i: usize = 0;
-    while i < left.len() {
+    for i in 0..left.len() {
         let f = Frame {
             left: left[i],
             right: right[i],
@@ -304,35 +292,11 @@ pub fn block(
         frames[2 * i] = t.heard.left;
         frames[2 * i + 1] = t.heard.right;
         gains[i] = t.heard.count;
-        i += 1;
     }
     c
 }
 
 // ---- a fresh ceiling
-
-// v at each of the count places from `from` on.
-fn fill_samples(s: &mut [f64], from: usize, count: usize, v: f64)
-    requires { from + count ≤ length s.old }
-    ensures { s.new ≡ filled s.old from count v }
-{
-    let mut k = 0;
-    while k < count {
-        s[from + k] = v;
-        k += 1;
-    }
-}
-
-fn fill_counts(s: &mut [u64], from: usize, count: usize, v: u64)
-    requires { from + count ≤ length s.old }
-    ensures { s.new ≡ filled s.old from count v }
-{
-    let mut k = 0;
-    while k < count {
-        s[from + k] = v;
-        k += 1;
-    }
-}
 
 // A fresh ceiling, whatever its parts of the stores held.
 pub fn fresh(rate: CeilingRate, samples: &mut [f64], counts: &mut [u64]) -> Ceiling
@@ -342,10 +306,9 @@ pub fn fresh(rate: CeilingRate, samples: &mut [f64], counts: &mut [u64]) -> Ceil
 {
     let places = rate.window + 1;
     let steps = rate.ahead + 1;
-    let all = places + 2 * rate.ahead;
-    fill_samples(samples, 0, all, 0.0);
-    fill_counts(counts, 0, places, 0);
-    fill_counts(counts, places, steps, CeilingRate::UNIT);
+    samples[..places + 2 * rate.ahead].fill(0.0);
+    counts[..places].fill(0);
+    counts[places..places + steps].fill(CeilingRate::UNIT);
     Ceiling {
         released: 1.0,
         count: steps as u64 * CeilingRate::UNIT,
@@ -357,6 +320,7 @@ pub fn fresh(rate: CeilingRate, samples: &mut [f64], counts: &mut [u64]) -> Ceil
 // ---- rest
 
 // Whether every late frame is zero on both sides.
+#[tactic(auto, unfolding(crate::specs::Kept::ceiling_at_rest_on))]
 pub fn at_rest(rate: CeilingRate, samples: &[f64]) -> bool
     requires usable { Usable rate }
     requires samples_long_enough { ceiling_samples rate ≤ length samples.now }
@@ -370,83 +334,55 @@ pub fn at_rest(rate: CeilingRate, samples: &[f64]) -> bool
 // ---- refusal 4
 
 // Whether each of the len needs queued from head on is from 0 to 1: those up to the ring's end, and those that lie from its beginning on.
-fn needs_in(samples: &[f64], places: usize, head: usize, len: usize) -> bool
-    requires places_in_bounds { (places ≤ length samples.now) × (places ≤ 65535) }
-    requires head_lt_places { (head < places) × (len ≤ places) }
-    ensures { result ≡ needs_in samples.now places head len }
+fn needs_in(ring: &[f64], head: usize, len: usize) -> bool
+    requires short { length ring.now ≤ 65535 }
+    requires head_lt_places { (head < length ring.now) × (len ≤ length ring.now) }
+    ensures { result ≡ needs_in ring.now (length ring.now) head len }
 {
     let end = head + len;
-    if end <= places {
-        return ranges::all_in_range(0.0, 1.0, &samples[head..end]);
+    if end <= ring.len() {
+        return ranges::all_in_range(0.0, 1.0, &ring[head..end]);
     }
-    let around = end - places;
-    if !ranges::all_in_range(0.0, 1.0, &samples[head..places]) {
-        return false;
-    }
-    ranges::all_in_range(0.0, 1.0, &samples[..around])
+    let around = end - ring.len();
+    ranges::all_in_range(0.0, 1.0, &ring[head..]) && ranges::all_in_range(0.0, 1.0, &ring[..around])
 }
 
 // 0 where a step is at most 2^40. A sum of these takes less than a test of each, since SSE2 cannot compare two u64 at once.
 fn above(step: u64) -> u64
-    ensures { ((result == 0) ≡ nat_le step unit) × (result < 16777216) × (result ≡ (step - step / unit) / unit) }
+    ensures value { result ≡ (step - step / unit) / unit }
+    ensures bound { result < 16777216 }
 {
     (step - step / CeilingRate::UNIT) / CeilingRate::UNIT
 }
 
-// Whether each of the count steps from `from` on is at most 2^40.
-fn steps_in(counts: &[u64], from: usize, count: usize) -> bool
-    requires { (from + count ≤ length counts.now) × (count ≤ 65535) }
-    ensures { result ≡ steps_in counts.now from count }
+// Whether each step is at most 2^40.
+fn steps_in(steps: &[u64]) -> bool
+    requires { length steps.now ≤ 65535 }
+    ensures { result ≡ list_all (λ s. nat_le s unit) steps.now }
 {
-    let mut over: u64 = 0;
-    let mut k = 0;
-    while k < count {
-        over += above(counts[from + k]);
-        k += 1;
-    }
-    over == 0
+    steps.iter().map(|s| above(*s)).sum::<u64>() == 0
 }
 
-// The sum of the count steps from `from` on.
-fn total(counts: &[u64], from: usize, count: usize) -> u64
-    requires count_in_bounds { (from + count ≤ length counts.now) × (count ≤ 65535) }
-    requires are_steps { T (steps_in counts.now from count) }
-    ensures { result ≡ sum_at counts.now from count }
+// Whether each step is at most 2^40, and the count is their sum.
+fn counted(steps: &[u64], count: u64) -> bool
+    requires { length steps.now ≤ 65535 }
+    ensures { result ≡ (list_all (λ s. nat_le s unit) steps.now && count == sum steps.now) }
 {
-    let mut sum: u64 = 0;
-    let mut k = 0;
-    while k < count {
-        sum += counts[from + k];
-        k += 1;
-    }
-    sum
+    steps_in(steps) && count == steps.iter().sum()
 }
 
 // Refusal 4, as far as it concerns the ceiling: false where it declines.
+#[tactic(auto, using(crate::proofs::Checking::needs_part, crate::proofs::Checking::counted_part), unfolding(crate::specs::WellFormed::well_formed))]
 pub fn well_formed(rate: CeilingRate, c: Ceiling, samples: &[f64], counts: &[u64]) -> bool
     requires usable { Usable rate }
     requires sized { Sized rate samples.now counts.now }
     ensures { result ≡ well_formed rate (ceiling_on c samples.now counts.now) }
 {
     let places = rate.window + 1;
-    let steps = rate.ahead + 1;
-    let head = c.head;
-    let len = c.len;
-    let released = c.released;
-    if places <= head {
-        return false;
-    }
-    if places < len {
-        return false;
-    }
-    if !ranges::in_range(0.0, 1.0, released) {
-        return false;
-    }
-    if !needs_in(samples, places, head, len) {
-        return false;
-    }
-    if !steps_in(counts, places, steps) {
-        return false;
-    }
-    c.count == total(counts, places, steps)
+    let end = places + rate.ahead + 1;
+    c.head < places
+        && c.len <= places
+        && ranges::in_range(0.0, 1.0, c.released)
+        && needs_in(&samples[..places], c.head, c.len)
+        && counted(&counts[places..end], c.count)
 }
