@@ -1,4 +1,5 @@
-// Flush, filters, delay lines, ramps, the sweep, the tone and the duck.
+// Flush, filters, delay lines, ramps, the sweep, the tone and the duck. Their numbers go over as arrays, and choices as numbers and flags,
+// since C and the harness hand them over so.
 use automation::Tone;
 use biquad::{Coefficients, Lowpass, Section};
 use duck::Duck;
@@ -13,88 +14,68 @@ pub fn goqhari_test_flush(v: f64) -> f64 {
 }
 
 pub fn goqhari_test_section(s: &mut [f64; 9], x: f64) -> f64 {
+    let [b0, b1, b2, a1, a2, x1, x2, y1, y2] = *s;
     let section = Section {
-        b0: s[0],
-        b1: s[1],
-        b2: s[2],
-        a1: s[3],
-        a2: s[4],
-        x1: s[5],
-        x2: s[6],
-        y1: s[7],
-        y2: s[8],
+        b0,
+        b1,
+        b2,
+        a1,
+        a2,
+        x1,
+        x2,
+        y1,
+        y2,
     };
     let next = section.step(x);
-    s[0] = next.b0;
-    s[1] = next.b1;
-    s[2] = next.b2;
-    s[3] = next.a1;
-    s[4] = next.a2;
-    s[5] = next.x1;
-    s[6] = next.x2;
-    s[7] = next.y1;
-    s[8] = next.y2;
+    let [b0, b1, b2, a1, a2] = coefficients(next);
+    *s = [b0, b1, b2, a1, a2, next.x1, next.x2, next.y1, next.y2];
     next.y1
 }
 
-fn write_five(c: Coefficients, out: &mut [f64; 5]) {
-    out[0] = c.b0;
-    out[1] = c.b1;
-    out[2] = c.b2;
-    out[3] = c.a1;
-    out[4] = c.a2;
-}
-
-fn five_of(s: Section) -> Coefficients {
-    Coefficients {
-        b0: s.b0,
-        b1: s.b1,
-        b2: s.b2,
-        a1: s.a1,
-        a2: s.a2,
-    }
+fn coefficients(s: Section) -> [f64; 5] {
+    [s.b0, s.b1, s.b2, s.a1, s.a2]
 }
 
 // A low-pass that is tuned to hz, its past being zero.
 fn lowpass_at(hz: f32) -> Lowpass {
-    let silent = Coefficients {
+    let silent = Section::new(Coefficients {
         b0: 0.0,
         b1: 0.0,
         b2: 0.0,
         a1: 0.0,
         a2: 0.0,
+    });
+    let lowpass = Lowpass {
+        first: silent,
+        second: silent,
     };
-    let l = Lowpass {
-        first: Section::new(silent),
-        second: Section::new(silent),
-    };
-    l.retuned(hz, HZ)
+    lowpass.retuned(hz, HZ)
 }
 
 // The sections of an order-4 low-pass.
 pub fn goqhari_test_lowpass(hz: f32, first: &mut [f64; 5], second: &mut [f64; 5]) {
-    let l = lowpass_at(hz);
-    write_five(five_of(l.first), first);
-    write_five(five_of(l.second), second);
+    let lowpass = lowpass_at(hz);
+    *first = coefficients(lowpass.first);
+    *second = coefficients(lowpass.second);
 }
 
 // The same of a low-pass that was tuned to `from` before, and has a past.
 pub fn goqhari_test_retuned(from: f32, hz: f32, first: &mut [f64; 5], second: &mut [f64; 5]) {
-    let l = lowpass_at(from).step(1.0).retuned(hz, HZ);
-    write_five(five_of(l.first), first);
-    write_five(five_of(l.second), second);
+    let lowpass = lowpass_at(from).step(1.0).retuned(hz, HZ);
+    *first = coefficients(lowpass.first);
+    *second = coefficients(lowpass.second);
 }
 
 // The rate's own coefficients: the head bump, the rolloff's two sections, the plate's high-pass.
 pub fn goqhari_test_fixed(which: u64, out: &mut [f64; 5]) {
     let tape = TapeRate::cd();
-    let plate = PlateRate::cd();
-    match which {
-        0 => write_five(tape.bump, out),
-        1 => write_five(tape.first, out),
-        2 => write_five(tape.second, out),
-        _ => write_five(plate.highpass, out),
+    let fixed = match which {
+        0 => tape.bump,
+        1 => tape.first,
+        2 => tape.second,
+        _ => PlateRate::cd().highpass,
     };
+    *out = coefficients(Section::new(fixed));
 }
 
 // The rate's own poles: the tilt's, and the plate's damping.
@@ -107,66 +88,50 @@ pub fn goqhari_test_pole(damping: bool) -> f64 {
 }
 
 pub fn goqhari_test_onepole(s: &mut [f64; 2], x: f64) -> f64 {
-    let next = OnePole {
-        pole: s[0],
-        y: s[1],
-    }
-    .lowpass(x);
-    s[0] = next.pole;
-    s[1] = next.y;
+    let [pole, y] = *s;
+    let next = OnePole { pole, y }.lowpass(x);
+    *s = [next.pole, next.y];
     next.y
 }
 
 pub fn goqhari_test_tilt(s: &mut [f64; 2], rain: f64, x: f64) -> f64 {
-    let next = OnePole {
-        pole: s[0],
-        y: s[1],
-    }
-    .tilt(onepole::lift(rain), x);
-    s[0] = next.lp.pole;
-    s[1] = next.lp.y;
+    let [pole, y] = *s;
+    let next = OnePole { pole, y }.tilt(onepole::lift(rain), x);
+    *s = [next.lp.pole, next.lp.y];
     next.out
 }
 
 pub fn goqhari_test_push(ring: &mut [f64], written: u64, x: f64) {
-    if 0 < ring.len() {
+    if !ring.is_empty() {
         delay::push(ring, written, x);
     }
 }
 
 pub fn goqhari_test_at(ring: &[f64], written: u64, delay: u64) -> f64 {
-    if ring.len() == 0 {
-        return 0.0;
+    if !ring.is_empty() && delay < 1 << 32 {
+        delay::at(ring, written, delay)
+    } else {
+        0.0
     }
-    if delay < 4294967296 {
-        return delay::at(ring, written, delay);
-    }
-    0.0
 }
 
 pub fn goqhari_test_tap(ring: &[f64], written: u64, max_delay: f64, delay: f64) -> f64 {
-    if ring.len() == 0 {
-        return 0.0;
+    if !ring.is_empty() && 0.0 <= max_delay && max_delay < 65536.0 {
+        delay::tap(ring, written, max_delay, delay)
+    } else {
+        0.0
     }
-    if 0.0 <= max_delay {
-        if max_delay < 65536.0 {
-            return delay::tap(ring, written, max_delay, delay);
-        }
-    }
-    0.0
-}
-
-fn shape_of(db: bool) -> Shape {
-    if db { Shape::Db } else { Shape::Linear }
 }
 
 fn ramp_of(ends: &[f64; 2], span: &[u64; 2], db: bool) -> Ramp {
-    let shape = shape_of(db);
+    let [from, to] = *ends;
+    let [start, len] = *span;
+    let shape = if db { Shape::Db } else { Shape::Linear };
     Ramp {
-        from: ends[0],
-        to: ends[1],
-        start: span[0],
-        len: span[1],
+        from,
+        to,
+        start,
+        len,
         shape,
     }
 }
@@ -189,10 +154,8 @@ pub fn goqhari_test_ramp_toward(
     len: u64,
 ) {
     let next = ramp_of(ends, span, db).toward(n, to, len);
-    ends[0] = next.from;
-    ends[1] = next.to;
-    span[0] = next.start;
-    span[1] = next.len;
+    *ends = [next.from, next.to];
+    *span = [next.start, next.len];
 }
 
 // The corner of a fixed tone at n, swept.
@@ -240,30 +203,18 @@ pub fn goqhari_test_sidechain(since: u64) -> f64 {
 
 // Keeps the kicks in a duck's part; answers how many.
 pub fn goqhari_test_duck_new(kicks: &[u64], counts: &mut [u64]) -> usize {
-    if ranges::MOST_KICKS < kicks.len() {
-        return 0;
+    if kicks.len() <= ranges::MOST_KICKS && duck::COUNTS <= counts.len() {
+        Duck::new(kicks, counts).count
+    } else {
+        0
     }
-    if counts.len() < duck::COUNTS {
-        return 0;
-    }
-    Duck::new(kicks, counts).count
 }
 
 // The gain of the sample n; the cursors are count, reached and ducking.
 pub fn goqhari_test_duck(counts: &mut [u64], cursors: &mut [usize; 3], n: u64, drums: bool) -> f64 {
-    if counts.len() < duck::COUNTS {
-        return 0.0;
-    }
-    let count = cursors[0];
-    let reached = cursors[1];
-    let ducking = cursors[2];
-    if ranges::MOST_KICKS < count {
-        return 0.0;
-    }
-    if count < reached {
-        return 0.0;
-    }
-    if count < ducking {
+    let [count, reached, ducking] = *cursors;
+    let fits = duck::COUNTS <= counts.len() && count <= ranges::MOST_KICKS;
+    if !fits || count < reached || count < ducking {
         return 0.0;
     }
     let duck = Duck {
@@ -272,7 +223,6 @@ pub fn goqhari_test_duck(counts: &mut [u64], cursors: &mut [usize; 3], n: u64, d
         ducking,
     };
     let g = duck::duck_step(TapeRate::cd().duck, duck, counts, n, drums);
-    cursors[1] = g.duck.reached;
-    cursors[2] = g.duck.ducking;
+    *cursors = [count, g.duck.reached, g.duck.ducking];
     g.gain
 }

@@ -48,6 +48,7 @@ pub fn goqhari_test_tanh(v: f64) -> f64 {
     elementary::tanh(v)
 }
 
+#[tactic(auto, unfolding(elementary::specs::Elementary::SINH))]
 pub fn goqhari_test_sinh(v: f64) -> f64
     ensures { result ≡ SINH v }
 {
