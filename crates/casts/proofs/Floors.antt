@@ -2,7 +2,7 @@
 use Rattle.std.proofs.Common.{◌≡◌, ℕ, zero, suc, ◌+◌, ◌-◌, ◌*◌, ◌/◌, ◌%◌, ◌^◌, ◌<◌, ◌≤◌, Bool, true, false, cond, T, ltb, ◌⊎◌, ℤ, pos, negsuc, sym, refl, ap, ◌∙◌, subst, inl, inr, true≢false, le_trans, le_of_eq, lt_of_lt_of_le, le_of_lt, mul-le-mul_right, mod-lt, mod-eq_of_lt, mul_assoc, div-lt_iff_lt-mul, add-mul, add_comm, lt_of_mul-lt-mul_right, eq-or-lt_of_le, mul-le-mul_left, mul-lt-mul_of_pos_right, mul-pos, one-mul, div-add-mod', le-div_iff_mul-le, zero-mul, mul-one, mul_right_comm, div-mul-le_self, mul-div_cancel, arith, lit≤, pow_pos, pow_mono, pow-add, shl_lt, ltb-false, ltb-true}
 use native.Mathlib.Nat.{eq_of_mul-eq-mul_right, add-mul-div_right, pow-succ'}
 use lib.Arith.{digits_div}
-use lib.Ieee.{Float, inf, fin, binary64, up, down, round, of_bits, fits}
+use lib.Ieee.{Float, inf, fin, binary64, up, down, round, of_bits, fits, is_nan}
 use lib.Ieee.Fits.{down_pos, round-fits}
 use lib.Ieee.Bits.{of_bits-fits}
 use lib.Ieee.Exact.{HasValue}
@@ -264,7 +264,13 @@ raises_tiny m P h =
     let c : (t.0 + (2 ^ 1074 - 1)) / 2 ^ 1074 ≡ 1 = ceil_over t.0 (2 ^ 1074) (pow_pos 1074) (subst (λ (n : ℕ). n < t.0) (sym (ap (λ (q : ℕ). q * 2 ^ 1074) w ∙ zero-mul (2 ^ 1074))) (t.3 P)) ∙ ap suc w in
     record { small = omega arith; same = sym (floored_at _ true t.0 (2 ^ 1074) (pow_pos 1074) t.1 ∙ ap (λ (n : ℕ). round binary64 true n 1) c ∙ minus_one_is) }
 
--- ---- from 2 ^ 52 on, and the infinity
+-- ---- from 2 ^ 52 on, and the infinity, and a NaN
+pub nan_stays : (x : Float) → is_nan x ≡ true → x ≡ floored x
+unfolding floored is_nan
+nan_stays lib.Ieee.nan h = refl
+nan_stays (inf s) h = refl
+nan_stays (fin s m e) h = absurd (true≢false (sym h))
+
 inf_stays : (s : Bool) → inf s ≡ floored (inf s)
 unfolding floored
 inf_stays s = refl

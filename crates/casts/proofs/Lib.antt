@@ -12,4 +12,3 @@ mod Inplace
 mod Cases
 mod Powers
 pub mod Floors
-mod Whole

@@ -1,6 +1,7 @@
 -- The float whose exponent's field is b, with no digits below the leading one, is 2 ^ (b - 1023). Assumes nothing.
-use Rattle.std.proofs.Common.{◌≡◌, ℕ, zero, suc, ◌+◌, ◌-◌, ◌*◌, ◌/◌, ◌%◌, ◌<◌, ◌≤◌, Bool, true, false, not, T, leb, ℤ, pos, negsuc, ◌+ℤ◌, refl, arith, ltb-false, le-ltb, ne_eqb, le-leb, leb-false, leb-true}
+use Rattle.std.proofs.Common.{◌≡◌, ℕ, zero, suc, ◌+◌, ◌-◌, ◌*◌, ◌/◌, ◌%◌, ◌<◌, ◌≤◌, Bool, true, false, cond, not, T, ltb, leb, ℤ, pos, negsuc, ◌+ℤ◌, refl, arith, ltb-false, le-ltb, ne_eqb, le-leb, leb-false, leb-true}
 use lib.Signed.{lt_z}
+use Rattle.std.specs.Int.{int_max, int_min}
 use lib.Count.{count_trailing_zeros}
 use borrow.Author.Tests.{lt-leb}
 use lib.Ieee.{fin, binary64, of_bits, of_fields, odd, minus, nan_bits}
@@ -36,6 +37,10 @@ no_nan b h =
     let e : b * 4503599627370496 % 9223372036854775808 / 4503599627370496 ≡ b = omega arith in
     rw (e, ne_eqb b 2047 (λ q. omega arith)) tt
 
+-- k, held within -1022 and 1023
+abbrev pub held : ℤ → ℤ
+held k = cond (lt_z k (negsuc 1021)) (negsuc 1021) (cond (lt_z (pos 1023) k) (pos 1023) k)
+
 -- k, from -1022 to 1023, with 1023 added
 pub record Biased (k : ℤ) : Type 0 where
   pub field : ℕ
@@ -44,7 +49,7 @@ pub record Biased (k : ℤ) : Type 0 where
   pub under : field < 2047
   pub back : minus field 1023 ≡ k
 
-pub biased : (k : ℤ) → lt_z k (negsuc 1021) ≡ false → lt_z (pos 1023) k ≡ false → Biased k
+biased : (k : ℤ) → lt_z k (negsuc 1021) ≡ false → lt_z (pos 1023) k ≡ false → Biased k
 biased (pos n) l t =
     let h : n ≤ 1023 = ltb-false 1023 n t in
     let e : n + 1023 - 1023 ≡ n = omega arith in
@@ -59,3 +64,24 @@ biased (negsuc n) t l =
       under = omega arith;
       back = rw (lt-leb 1023 (1023 - suc n) (omega arith), e);
     }
+
+-- k, held within -1022 and 1023 as std's clamp does it
+pub clamped : (k : ℤ) → int_max (negsuc 1021) (int_min k (pos 1023)) ≡ held k
+clamped (pos n) = go (ltb 1023 n)
+  where
+    go : (b : Bool) → int_max (negsuc 1021) (cond b (pos 1023) (pos n)) ≡ cond b (pos 1023) (pos n)
+    go true = refl
+    go false = refl
+clamped (negsuc n) = refl
+
+pub biased_held : (k : ℤ) → Biased (held k)
+biased_held (pos n) = go (ltb 1023 n) refl
+  where
+    go : (b : Bool) → ltb 1023 n ≡ b → Biased (cond b (pos 1023) (pos n))
+    go true e = biased (pos 1023) refl refl
+    go false e = biased (pos n) refl e
+biased_held (negsuc n) = go (ltb 1021 n) refl
+  where
+    go : (b : Bool) → ltb 1021 n ≡ b → Biased (cond b (negsuc 1021) (negsuc n))
+    go true e = biased (negsuc 1021) refl refl
+    go false e = biased (negsuc n) e refl

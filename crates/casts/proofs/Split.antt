@@ -12,6 +12,10 @@ unfolding div of_bits
 zero_by_zero binary32 = refl
 zero_by_zero binary64 = refl
 
+-- what owning a float tells: its format holds it
+pub held : (f : Format) (x : Float) → fits f x ≡ true → T (fits f x)
+held f x e = subst T (sym e) tt
+
 -- the test `x != x`
 pub nan_bits_lem : (f : Format) (x : Float) → ne x x ≡ true → to_bits f nan ≡ to_bits f x
 nan_bits_lem f x h = ap (to_bits f) (sym (differs_from_itself x (subst T (sym h) tt)))
@@ -26,7 +30,7 @@ inf_lt : (f : Format) → ones f * hid f < top f
 inf_lt binary32 = omega arith
 inf_lt binary64 = omega arith
 
-not_false : (b : Bool) → b ≡ false → T (not b)
+pub not_false : (b : Bool) → b ≡ false → T (not b)
 not_false true h = absurd (true≢false h)
 not_false false h = tt
 
@@ -67,7 +71,7 @@ pub plain_no_nan : (f : Format) (r : ℕ) → r ≤ ones f * hid f → T (not (n
 plain_no_nan f r h = subst (λ (n : ℕ). T (not (nan_bits f n))) (zero-add r) (signed_no_nan f false r h)
 
 -- ---- any pattern, by the test that the code makes
-is_nan_lem : (x : Float) → is_nan x ≡ true → x ≡ nan
+pub is_nan_lem : (x : Float) → is_nan x ≡ true → x ≡ nan
 unfolding is_nan
 is_nan_lem nan h = refl
 is_nan_lem (inf s) h = absurd (true≢false (sym h))

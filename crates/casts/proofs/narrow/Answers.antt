@@ -1,40 +1,28 @@
--- `casts::narrow` meets its contract: in the common range by the digits rounded in place, else by `nearest_short`. Assumes nothing.
--- what owning an `f64` tells: the format holds it
-use Rattle.std.proofs.Common.{Float, ◌≡◌, true, T, sym, ap, ◌∙◌, subst, arith}
-use lib.Ieee.{binary32, binary64, fits}
+-- `casts::narrow` meets its contract: in the common range by the digits rounded in place, below 2^-150 by a zero of the sign, else by std. Assumes nothing.
+use Rattle.std.proofs.Common.{◌≡◌, ℕ, true, ap, ◌∙◌, arith}
+use lib.Ieee.{Float, binary32, binary64, of_bits, to_bits, fits}
 use lib.Ieee.Bits.{of_bits-to_bits}
-use lib.Ieee.Compare.{differs_from_itself}
 use Rattle.casts.specs.Cast.{narrowed}
-use Rattle.casts.proofs.Split.{zero_by_zero, no_nan, rest_le, reads_number}
+use Rattle.casts.proofs.Split.{held, reads_number}
+use Rattle.casts.proofs.Narrowing.{narrowed_is, narrows_nought, narrows_minus_nought}
 use Rattle.casts.proofs.narrow.Goals as goal
 
-held : (x : Float) → fits binary64 x ≡ true → T (fits binary64 x)
-held x e = subst T (sym e) tt
-
-pub returns-then-x : goal.returns-then-x
-unfolding narrowed
-returns-then-x c = zero_by_zero binary32 ∙ ap narrowed (sym (differs_from_itself c.args.x (subst T (sym c.if-x.true) tt)))
-
-pub float_to_bits-bits : goal.float_to_bits-bits
-float_to_bits-bits c = no_nan c.args.x c.if-x.false
-
-pub nearest_short-requires : goal.nearest_short-requires
-nearest_short-requires c = rest_le binary64 c.args.x (held c.args.x c.well_formed.0.1) (no_nan c.args.x c.if-x.false)
-
-pub returns-then-field-lt897 : goal.returns-then-field-lt897
-returns-then-field-lt897 c = c.nearest_short.ensures ∙ ap narrowed (of_bits-to_bits binary64 c.args.x (held c.args.x c.well_formed.0.1))
-
-pub nearest_short-requires-then-field-ge1150 : goal.nearest_short-requires-then-field-ge1150
-nearest_short-requires-then-field-ge1150 c = rest_le binary64 c.args.x (held c.args.x c.well_formed.0.1) (no_nan c.args.x c.if-x.false)
-
-pub returns-then-field-ge1150 : goal.returns-then-field-ge1150
-returns-then-field-ge1150 c = c.nearest_short-then-field-ge1150.ensures ∙ ap narrowed (of_bits-to_bits binary64 c.args.x (held c.args.x c.well_formed.0.1))
-
-pub rounded_bits-requires : goal.rounded_bits-requires
-rounded_bits-requires c = (c.if-field-lt897.false, omega arith)
+read : (x : Float) {b : ℕ} → fits binary64 x ≡ true → b ≡ to_bits binary64 x → of_bits binary64 b ≡ x
+read x f e = ap (of_bits binary64) e ∙ of_bits-to_bits binary64 x (held binary64 x f)
 
 pub float_from_bits-result : goal.float_from_bits-result
 float_from_bits-result c = reads_number binary32 c.rounded_bits.result c.rounded_bits.ensures.number
 
+pub returns-then-field-lt-PAST_IN_PLACE : goal.returns-then-field-lt-PAST_IN_PLACE
+returns-then-field-lt-PAST_IN_PLACE c = c.rounded_bits.ensures.same ∙ ap narrowed (read c.args.x c.well_formed.0.1 c.bits_of_f64-bits.ensures)
+
+pub returns-then-bits-lt-SIGN : goal.returns-then-bits-lt-SIGN
+returns-then-bits-lt-SIGN c =
+    narrows_nought _ c.if-bits-lt-SIGN.true c.if-field-lt-LEAST_FIELD.true ∙ ap narrowed (read c.args.x c.well_formed.0.1 c.bits_of_f64-bits.ensures)
+
+pub returns-else-bits-lt-SIGN : goal.returns-else-bits-lt-SIGN
+returns-else-bits-lt-SIGN c =
+    narrows_minus_nought _ (omega arith) c.if-bits-lt-SIGN.false c.if-field-lt-LEAST_FIELD.true ∙ ap narrowed (read c.args.x c.well_formed.0.1 c.bits_of_f64-bits.ensures)
+
 pub returns : goal.returns
-returns c = c.rounded_bits.ensures.same ∙ ap narrowed (of_bits-to_bits binary64 c.args.x (held c.args.x c.well_formed.0.1))
+returns c = c.nearest_f64_to_f32_with_nan.ensures ∙ narrowed_is c.args.x

@@ -1,9 +1,0 @@
--- `casts::lesser` meets its contract. Assumes nothing.
-
-use Rattle.casts.proofs.lesser.Goals as goal
-
-pub returns-then-b-a : goal.returns-then-b-a
-returns-then-b-a c = rw c.if-b-a.true
-
-pub returns-else-b-a : goal.returns-else-b-a
-returns-else-b-a c = rw c.if-b-a.false
