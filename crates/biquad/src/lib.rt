@@ -12,7 +12,7 @@ const Q_FIRST: f64 = 1.306562964876377;
 const Q_SECOND: f64 = 0.5411961001461969;
 
 // A section's five coefficients, a0 being 1.
-#[derive(Clone, Copy)]
+#[derive(Clone, Copy, Default)]
 pub struct Coefficients {
     pub b0: f64,
     pub b1: f64,

@@ -75,18 +75,21 @@ fn saturate_over(drive: f64, top: f64, x: f64) -> f64
 }
 
 // The tilt's lift at sample n: the rain moves it only where it darkens the lane.
+#[tactic(auto, unfolding(crate::specs::Tape::lift_at))]
 fn lift(darkened: bool, rain: Ramp, n: u64) -> f64
     ensures { result ≡ lift_at darkened rain n }
 {
     if darkened {
-        return onepole::lift(rain.at(n));
+        onepole::lift(rain.at(n))
+    } else {
+        casts::widen(onepole::TILT_LIFT)
     }
-    casts::widen(onepole::TILT_LIFT)
 }
 
 // ---- one sample of each pass
 
 // Tone, swell and gain in, warp: the ring is the warp's own, the swell and the delay are the sample's.
+#[tactic(auto, unfolding(crate::specs::Kept::front_step_on))]
 fn front_step(
     rate: TapeRate,
     setup: TapeSetup,
@@ -117,27 +120,31 @@ pub fn tilt(mut lp: OnePole, lift: f64, x: f64) -> Tilted
     Tilted { lp, out }
 }
 
-// Head bump, rolloff, tilt, gain out.
-fn equalizer_step(setup: TapeSetup, rain: Ramp, equalizer: Equalizer, n: u64, x: f64) -> Equalized
-    ensures { equalizer_gave result.equalizer result.y ≡ equalizer_step setup rain n equalizer x }
-{
-    let bump = equalizer.bump.step(x);
-    let rolloff = equalizer
-        .rolloff
-        .step(x + casts::widen(HEAD_BUMP_MIX) * bump.y1);
-    let tilted = tilt(
-        equalizer.tilt,
-        lift(setup.darkened, rain, n),
-        rolloff.second.y1,
-    );
-    let tilt = tilted.lp;
-    Equalized {
-        equalizer: Equalizer {
-            bump,
-            rolloff,
-            tilt,
-        },
-        y: tilted.out * setup.output,
+impl Equalizer {
+    // Head bump, rolloff, tilt, gain out.
+    #[tactic(auto, unfolding(crate::specs::Tape::equalizer_step))]
+    fn step(self, setup: TapeSetup, rain: Ramp, n: u64, x: f64) -> Equalized
+        ensures { equalizer_gave result.equalizer result.y ≡ equalizer_step setup rain n self x }
+    {
+        let bump = self.bump.step(x);
+        let rolloff = self.rolloff.step(x + casts::widen(HEAD_BUMP_MIX) * bump.y1);
+        let tilted = tilt(self.tilt, lift(setup.darkened, rain, n), rolloff.second.y1);
+        Equalized {
+            equalizer: Equalizer {
+                bump,
+                rolloff,
+                tilt: tilted.lp,
+            },
+            y: tilted.out * setup.output,
+        }
+    }
+
+    // Whether its past is all zeros.
+    #[tactic(auto, unfolding(crate::specs::Tape::equalizer_at_rest))]
+    fn at_rest(self) -> bool
+        ensures { result ≡ equalizer_at_rest self }
+    {
+        self.bump.at_rest() && self.rolloff.at_rest() && self.tilt.at_rest()
     }
 }
 
@@ -156,27 +163,22 @@ fn front_group(
     ensures front_after { front_on result ring.new ≡ ran (front_step_on rate setup) n (front_on tone ring.old) group.old }
     ensures group_after { group.new ≡ outs (front_step_on rate setup) n (front_on tone ring.old) group.old }
 {
-    let pad = setup.pad;
-    let swells = oscillators::swells(rate.hz, pad, n, group.len());
+    let swells = oscillators::swells(rate.hz, setup.pad, n, group.len());
     let delays = oscillators::delays(rate, n, group.len());
     let mut tone = tone;
-    let mut i: usize = 0;
-    while i < group.len() {
-        let swell = swells[i];
-        let delay = delays[i];
-        let f = front_step(
+    for (i, x) in group.iter_mut().enumerate() {
+        let fronted = front_step(
             rate,
             setup,
             tone,
             ring,
             n + i as u64,
-            swell,
-            delay,
-            group[i],
+            swells[i],
+            delays[i],
+            *x,
         );
-        tone = f.tone;
-        group[i] = f.y;
-        i += 1;
+        tone = fronted.tone;
+        *x = fronted.y;
     }
     tone
 }
@@ -195,11 +197,9 @@ fn front_block(
     ensures block_after { block.new ≡ outs (front_step_on rate setup) n (front_on tone ring.old) block.old }
 {
     let mut tone = tone;
-    let mut i: usize = 0;
-    while i < block.len() {
-        let e = eight::group_end(i, block.len());
-        tone = front_group(rate, setup, tone, ring, &mut block[i..e], n + i as u64);
-        i = e;
+    for i in (0..block.len()).step_by(8) {
+        let end = (i + 8).min(block.len());
+        tone = front_group(rate, setup, tone, ring, &mut block[i..end], n + i as u64);
     }
     tone
 }
@@ -208,10 +208,8 @@ fn front_block(
 fn saturate_each(drive: f64, top: f64, block: &mut [f64])
     ensures { block.new ≡ map (saturated_over drive top) block.old }
 {
-    let mut i: usize = 0;
-    while i < block.len() {
-        block[i] = saturate_over(drive, top, block[i]);
-        i += 1;
+    for x in block.iter_mut() {
+        *x = saturate_over(drive, top, *x);
     }
 }
 
@@ -238,17 +236,16 @@ fn equalizer_block(
     ensures block_after { block.new ≡ outs (equalizer_step setup rain) n equalizer block.old }
 {
     let mut equalizer = equalizer;
-    let mut i: usize = 0;
-    while i < block.len() {
-        let e = equalizer_step(setup, rain, equalizer, n + i as u64, block[i]);
-        equalizer = e.equalizer;
-        block[i] = e.y;
-        i += 1;
+    for (i, x) in block.iter_mut().enumerate() {
+        let equalized = equalizer.step(setup, rain, n + i as u64, *x);
+        equalizer = equalized.equalizer;
+        *x = equalized.y;
     }
     equalizer
 }
 
 // The duck, where the lane ducks.
+#[tactic(auto, unfolding(crate::specs::Kept::ducked_step_on), using(stage::proofs::Laws::ran_identity, stage::proofs::Laws::outs_identity))]
 fn duck_block(
     rate: DuckRate,
     ducked: bool,
@@ -264,12 +261,14 @@ fn duck_block(
     ensures block_after { block.new ≡ outs (ducked_step_on rate ducked drums) n (duck_on duck counts.old) block.old }
 {
     if ducked {
-        return duck::duck_block(rate, duck, counts, block, n, drums);
+        duck::duck_block(rate, duck, counts, block, n, drums)
+    } else {
+        duck
     }
-    duck
 }
 
 // The tape tuned for the sample at n. A tuning costs more than a sample, so it is kept as long as it lasts.
+#[tactic(auto, unfolding(crate::specs::Kept::tuned_at, crate::specs::Kept::tuned_afresh))]
 pub fn tuned(
     rate: TapeRate,
     tone: Tone,
@@ -286,17 +285,12 @@ pub fn tuned(
         return tape;
     }
     let p = automation::piece_at(tone, daylight, positions, values, n);
-    let tone = tape.tone.retuned(p.tuning.corner, rate.hz);
-    let top = elementary::tanh(p.tuning.drive);
-    let equalizer = tape.equalizer;
-    let duck = tape.duck;
     Tape {
-        tone,
-        equalizer,
-        duck,
+        tone: tape.tone.retuned(p.tuning.corner, rate.hz),
         drive: p.tuning.drive,
-        top,
+        top: elementary::tanh(p.tuning.drive),
         until: n + p.len,
+        ..tape
     }
 }
 
@@ -304,9 +298,7 @@ pub fn tuned(
 pub fn untuned(tape: Tape) -> Tape
     ensures { result ≡ untuned tape }
 {
-    let mut tape = tape;
-    tape.until = 0;
-    tape
+    Tape { until: 0, ..tape }
 }
 
 // A block of samples that have one tuning, the tape's.
@@ -335,80 +327,44 @@ pub fn tape_block(
         tone,
         equalizer,
         duck,
-        drive: tape.drive,
-        top: tape.top,
-        until: tape.until,
+        ..tape
     }
 }
 
 // The tape's filters whose past is zero, not tuned yet, and a duck that has reached no kick.
+#[tactic(auto, unfolding(crate::specs::Kept::fresh_tape, crate::specs::Tape::fresh_tone, crate::specs::Tape::fresh_equalizer))]
 pub fn fresh(rate: TapeRate, kicks: usize) -> Tape
     ensures { result ≡ fresh_tape rate kicks }
 {
-    let silent = Coefficients {
-        b0: 0.0,
-        b1: 0.0,
-        b2: 0.0,
-        a1: 0.0,
-        a2: 0.0,
-    };
-    let tone = Lowpass {
-        first: Section::new(silent),
-        second: Section::new(silent),
-    };
-    let rolloff = Lowpass {
-        first: Section::new(rate.first),
-        second: Section::new(rate.second),
-    };
-    let bump = Section::new(rate.bump);
-    let equalizer = Equalizer {
-        bump,
-        rolloff,
-        tilt: OnePole {
-            pole: rate.tilt,
-            y: 0.0,
-        },
-    };
-    let duck = Duck {
-        count: kicks,
-        reached: 0,
-        ducking: 0,
-    };
+    let silent = Section::new(Coefficients::default());
     Tape {
-        tone,
-        equalizer,
-        duck,
+        tone: Lowpass {
+            first: silent,
+            second: silent,
+        },
+        equalizer: Equalizer {
+            bump: Section::new(rate.bump),
+            rolloff: Lowpass {
+                first: Section::new(rate.first),
+                second: Section::new(rate.second),
+            },
+            tilt: OnePole::new(rate.tilt),
+        },
+        duck: Duck {
+            count: kicks,
+            reached: 0,
+            ducking: 0,
+        },
         drive: 0.0,
         top: 0.0,
         until: 0,
     }
 }
 
-// Whether the equalizer's past is all zeros.
-fn equalizer_at_rest(equalizer: Equalizer) -> bool
-    ensures { result ≡ equalizer_at_rest equalizer }
-{
-    let bump = equalizer.bump;
-    let rolloff = equalizer.rolloff;
-    let tilt = equalizer.tilt;
-    if bump.at_rest() {
-        if rolloff.at_rest() {
-            return tilt.at_rest();
-        }
-    }
-    false
-}
-
 // Whether the tape's filters and its warp hold only zeros.
+#[tactic(auto, unfolding(crate::specs::Kept::tape_at_rest_on))]
 pub fn at_rest(tape: Tape, ring: &[f64]) -> bool
     ensures { result ≡ tape_at_rest_on tape.tone tape.equalizer ring.now }
 {
-    let tone = tape.tone;
-    let equalizer = tape.equalizer;
-    if tone.at_rest() {
-        if equalizer_at_rest(equalizer) {
-            return delay::at_rest(ring);
-        }
-    }
-    false
+    tape.tone.at_rest() && tape.equalizer.at_rest() && delay::at_rest(ring)
 }

@@ -14,14 +14,8 @@ delays-delays-requires c = (c.requires.group_bound.1, omega (arith, c.requires.g
 pub loop-i-init : goal.loop-i-init
 loop-i-init c = (in_start _ _ _ _, refl)
 
-pub bounds-swells-i : goal.bounds-swells-i
-bounds-swells-i c = omega (arith, c.loop-i-test.true, c.loop-i.invariant.0.ahead.sized, c.requires.group_bound.2)
-
-pub bounds-delays-i : goal.bounds-delays-i
-bounds-delays-i c = omega (arith, c.loop-i-test.true, c.loop-i.invariant.0.ahead.sized, c.requires.group_bound.2)
-
-pub front_step-f-requires : goal.front_step-f-requires
-front_step-f-requires c = let l = c.loop-i in
+pub front_step-fronted-requires : goal.front_step-fronted-requires
+front_step-fronted-requires c = let l = c.loop-i in
     let p = c.requires in
     let t = c.loop-i-test.true in
     let z = l.invariant.0.ahead.sized in
@@ -31,20 +25,14 @@ front_step-f-requires c = let l = c.loop-i in
       swell_value = (c.swells-swells.ensures l.i (omega (arith, t, z)), c.delays-delays.ensures l.i (omega (arith, t, z)));
     }
 
-pub offset_bounds-group-i-in-loop-i : goal.offset_bounds-group-i-in-loop-i
-offset_bounds-group-i-in-loop-i c = omega (arith, c.loop-i-test.true, c.loop-i.invariant.0.ahead.sized, c.requires.group_bound.2)
-
-pub overflow_add-i : goal.overflow_add-i
-overflow_add-i c = omega (arith, c.loop-i-test.true, c.loop-i.invariant.0.ahead.sized, c.requires.group_bound.2)
-
 pub loop-i-preserved : goal.loop-i-preserved
 loop-i-preserved c = let l = c.loop-i in
-    let f = c.front_step-f in
-    (in_turn _ _ _ _ (front_on l.tone l.ring) l.group l.i nan _ l.invariant.0 c.loop-i-test.true f.ensures, f.auto.ring ∙ l.invariant.1)
+    let f = c.front_step-fronted in
+    (in_turn _ _ _ _ (front_on l.tone l.ring) l.group l.i nan _ l.invariant.0 (omega (arith, c.loop-i-test.true, l.invariant.0.ahead.sized)) f.ensures, f.auto.ring ∙ l.invariant.1)
 
 pub returns : goal.returns
 returns c = let l = c.loop-i in
     record {
-      front_after = in_ran _ _ _ _ (front_on l.tone l.ring) l.group l.i l.invariant.0 c.loop-i-test.false;
-      group_after = in_outs _ _ _ _ (front_on l.tone l.ring) l.group l.i l.invariant.0 c.loop-i-test.false;
+      front_after = in_ran _ _ _ _ (front_on l.tone l.ring) l.group l.i l.invariant.0 (omega (arith, c.loop-i-test.false, l.invariant.0.ahead.sized));
+      group_after = in_outs _ _ _ _ (front_on l.tone l.ring) l.group l.i l.invariant.0 (omega (arith, c.loop-i-test.false, l.invariant.0.ahead.sized));
     }
