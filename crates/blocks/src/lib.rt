@@ -55,10 +55,8 @@ fn send(dry: &[f64], sent: &mut [f64], level: f64)
     requires { length sent.old ≡ length dry.now }
     ensures { sent.new ≡ map (λ y. y ⊗ level) dry.now }
 {
-    let mut i: usize = 0;
-    while i < dry.len() {
-        sent[i] = dry[i] * level;
-        i += 1;
+    for (i, y) in sent.iter_mut().enumerate() {
+        *y = dry[i] * level;
     }
 }
 
@@ -114,10 +112,8 @@ fn add(dry: &[f64], side: &mut [f64])
     requires { length side.old ≡ length dry.now }
     ensures { side.new ≡ added dry.now side.old }
 {
-    let mut i: usize = 0;
-    while i < dry.len() {
-        side[i] = dry[i] + side[i];
-        i += 1;
+    for (i, y) in side.iter_mut().enumerate() {
+        *y = dry[i] + *y;
     }
 }
 
@@ -214,17 +210,15 @@ fn block(
 {
     let n = strip.position;
     let k = dry.len() as u64;
-    let lane_at = places::bus_samples(rate);
-    let lane_end = lane_at + places::lane_samples(rate);
-    let counts_at = places::bus_counts(rate);
-    let counts_end = counts_at + places::LANE_COUNTS;
+    let lane_part = places::lane_part(rate);
+    let bus_part = places::bus_part(rate);
     let lane = lane_block(
         rate,
         strip.lane,
         tape,
         drums,
-        &mut store[lane_at..lane_end],
-        &mut counts[counts_at..counts_end],
+        &mut store[lane_part.samples],
+        &mut counts[lane_part.counts],
         dry,
         left,
         n,
@@ -232,8 +226,8 @@ fn block(
     let bus = bus_block(
         rate,
         strip.bus,
-        &mut store[0..lane_at],
-        &mut counts[0..counts_at],
+        &mut store[bus_part.samples],
+        &mut counts[bus_part.counts],
         dry,
         left,
         right,
@@ -248,17 +242,6 @@ fn block(
     }
 }
 
-fn copy(samples: &[f64], block: &mut [f64])
-    requires { length block.old ≡ length samples.now }
-    ensures { block.new ≡ samples.now }
-{
-    let mut i: usize = 0;
-    while i < samples.len() {
-        block[i] = samples[i];
-        i += 1;
-    }
-}
-
 // The tape tuned for the next sample.
 fn tuned(rate: Rate, strip: Strip, store: &[f64], counts: &[u64]) -> Tape
     requires rate_usable { RateUsable rate }
@@ -266,23 +249,14 @@ fn tuned(rate: Rate, strip: Strip, store: &[f64], counts: &[u64]) -> Tape
     requires position_lt_last_position { strip.position < last_position }
     ensures { result ≡ tuned_of rate strip.position (lane_in rate (state strip store.now counts.now)) }
 {
-    let lane_at = places::bus_samples(rate);
-    let lane_end = lane_at + places::lane_samples(rate);
-    let counts_at = places::bus_counts(rate);
-    let counts_end = counts_at + places::LANE_COUNTS;
+    let part = places::lane_part(rate);
     lane_tuned(
         rate,
         strip.lane,
-        &store[lane_at..lane_end],
-        &counts[counts_at..counts_end],
+        &store[part.samples],
+        &counts[part.counts],
         strip.position,
     )
-}
-
-fn least(a: u64, b: usize) -> usize
-    ensures { result ≡ min a b }
-{
-    if a < b as u64 { a as usize } else { b }
 }
 
 // How many of the samples left the next block has: those of one tuning, and no more than its arrays hold.
@@ -290,10 +264,7 @@ fn block_len(until: u64, n: u64, left: usize) -> usize
     requires { (n < until) × (0 < left) }
     ensures { (0 < result) × (n + result ≤ until) × (result ≤ left) × (result ≤ 32) × (result ≡ min (min (until - n) left) 32) }
 {
-    if left < BLOCK {
-        return least(until - n, left);
-    }
-    least(until - n, BLOCK)
+    (until - n).min(left.min(BLOCK) as u64) as usize
 }
 
 // The rate is made here, so that its numbers are constants to the compiler.
@@ -323,7 +294,7 @@ pub fn go(
         let e = i + k;
         let from = 2 * i;
         let to = 2 * e;
-        copy(&samples[i..e], &mut dry[0..k]);
+        dry[0..k].copy_from_slice(&samples[i..e]);
         strip = block(
             rate,
             strip,

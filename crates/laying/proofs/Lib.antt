@@ -1,3 +1,2 @@
--- A list laid so far, and a list laid behind another.
-mod Laid
+-- A list laid behind another.
 pub mod Joined

@@ -4,24 +4,9 @@
 ghost use Rattle.std.specs.Prelude.{◌≡◌, ◌≤◌, length};
 ghost use Rattle.stage.specs.Stage.{over};
 
-pub fn lay_values(values: &[f64], part: &mut [f64])
-    requires { length values.now ≤ length part.old }
-    ensures { part.new ≡ over values.now part.old }
+pub fn lay<T: Copy>(list: &[T], part: &mut [T])
+    requires { length list.now ≤ length part.old }
+    ensures { part.new ≡ over list.now part.old }
 {
-    let mut i: usize = 0;
-    while i < values.len() {
-        part[i] = values[i];
-        i += 1;
-    }
-}
-
-pub fn lay_positions(positions: &[u64], part: &mut [u64])
-    requires { length positions.now ≤ length part.old }
-    ensures { part.new ≡ over positions.now part.old }
-{
-    let mut i: usize = 0;
-    while i < positions.len() {
-        part[i] = positions[i];
-        i += 1;
-    }
+    part[..list.len()].copy_from_slice(list);
 }

@@ -1,12 +1,8 @@
 -- What is lent of a part, and what the part holds when it is back. Assumes nothing.
-use mathlib.Core.Path.{◌≡◌, refl, ap, ◌∙◌}
-use Prim.Native.Nat.{ℕ, zero, suc, ◌+◌, ◌-◌, ◌≤◌, ◌<◌}
-use native.Mathlib.Nat.{not-suc-le-zero, le_of_suc-le-suc, sub-zero}
-use native.Mathlib.Omega.{arith}
-use native.Mathlib.Numerals.{add-one}
-use mathlib.Core.List.{List, [], ◌∷◌, ◌++◌, append-nil}
-use lib.ListN.{length, take, drop, set, replicate, drop_of_length-le}
-use lib.Seq.{length-take-le}
+use mathlib.Core.Path.{◌≡◌, ap, ◌∙◌}
+use Prim.Native.Nat.{ℕ, ◌+◌, ◌-◌}
+use mathlib.Core.List.{List, ◌++◌}
+use lib.ListN.{length, take, drop}
 use lib.Ieee.{Float}
 use borrow.Rule.Slice.PartMut.{mid_of, put_mid}
 use Rattle.stage.specs.Stage.{over}
@@ -20,22 +16,6 @@ use Rattle.strip.specs.declared.Lane.{Lane}
 use Rattle.strip.specs.declared.Bus.{Bus}
 use Rattle.strip.specs.Kept.{LaneIn, lane_on, BusIn, bus_on, state, samples_behind, counts_behind, state_of, opened_lane, opened_bus, opened_state}
 use Rattle.strip.proofs.Parts.{lane_lent, bus_lent, both_back}
-
--- ---- a part filled from the front with one value
-module _ {X : Type 0} where
-  fill_suc : (n : ℕ) (v : X) (d : List X) → n < length d → set (replicate n v ++ drop n d) n v ≡ replicate (suc n) v ++ drop (suc n) d
-  fill_suc n v [] l = absurd (not-suc-le-zero l)
-  fill_suc zero v (x ∷ d) l = refl
-  fill_suc (suc n) v (x ∷ d) l = ap (λ (t : List X). v ∷ t) (fill_suc n v d (le_of_suc-le-suc l))
-
-  pub fill_more : (n : ℕ) (v : X) (d : List X) → n < length d → set (replicate n v ++ drop n d) n v ≡ replicate (n + 1) v ++ drop (n + 1) d
-  fill_more n v d l = rw (add-one n) (fill_suc n v d l)
-
-  pub fill_done : (n : ℕ) (v : X) (d : List X) → n ≤ length d → length d ≤ n → replicate n v ++ drop n d ≡ replicate (length d) v
-  fill_done n v d h k = let e : n ≡ length d = omega arith in rw (drop_of_length-le d k) (append-nil (replicate n v) ∙ rw e)
-
-  pub filled_to : (w : ℕ) (v : X) (l Z : List X) → w ≤ length l → Z ≡ replicate (length (take (w - 0) l)) v → Z ≡ replicate w v
-  filled_to w v l Z h e = e ∙ rw (sub-zero, length-take-le w l h)
 
 -- ---- the first w places, back as Z, and a list laid behind them, back as W
 pub laid_behind : {X : Type 0} (w : ℕ) (l Z : List X) → length Z ≡ w → (L W : List X) → W ≡ over L (mid_of w (length (Z ++ drop (w - 0) l) - w) (Z ++ drop (w - 0) l))

@@ -17,24 +17,14 @@ use ramp::{Ramp, Shape};
 use rate::{Rate, places};
 use strip::{Bus, Lane, Setup, Strip};
 
-fn clear(part: &mut [f64])
-    ensures { part.new ≡ replicate (length part.old) nought }
-{
-    let mut k: usize = 0;
-    while k < part.len() {
-        part[k] = 0.0;
-        k += 1;
-    }
-}
-
 // The warp's line silent, and the sweep's values behind it.
 fn lay_samples(rate: Rate, values: &[f64], samples: &mut [f64])
     requires { (length samples.old ≡ lane_samples rate) × (length values.now ≤ most_points) }
     ensures { samples.new ≡ replicate (warp_samples rate.tape) nought ++ over values.now (drop (warp_samples rate.tape) samples.old) }
 {
     let w = places::warp_samples(rate);
-    clear(&mut samples[0..w]);
-    laying::lay_values(values, &mut samples[w..]);
+    samples[..w].fill(0.0);
+    laying::lay(values, &mut samples[w..]);
 }
 
 // The kicks, and the sweep's positions behind them.
@@ -43,7 +33,7 @@ fn lay_counts(positions: &[u64], kicks: &[u64], counts: &mut [u64])
     ensures { counts.new ≡ (laid kicks.now (take duck_counts counts.old)).part ++ over positions.now (drop duck_counts counts.old) }
 {
     Duck::new(kicks, &mut counts[0..duck::COUNTS]);
-    laying::lay_positions(positions, &mut counts[duck::COUNTS..]);
+    laying::lay(positions, &mut counts[duck::COUNTS..]);
 }
 
 pub fn open_lane(
@@ -80,7 +70,7 @@ pub fn open_bus(rate: Rate, samples: &mut [f64], counts: &mut [u64]) -> Bus
     ensures { bus_on result samples.new counts.new ≡ opened_bus rate samples.old counts.old }
 {
     let p = places::plate_samples(rate);
-    clear(&mut samples[0..p]);
+    samples[..p].fill(0.0);
     let ceiling = master::fresh(rate.ceiling, &mut samples[p..], counts);
     let plate = Plate::new(rate.plate);
     Bus { plate, ceiling }
@@ -100,20 +90,22 @@ pub fn open_strip(
     requires positions_len_bound { (length positions.now ≤ most_points) × (length values.now ≤ most_points) × (length kicks.now ≤ most_kicks) }
     ensures { state result store.new counts.new ≡ opened_state rate setup (lists_of positions.now values.now kicks.now) store.old counts.old }
 {
-    let lane_at = places::bus_samples(rate);
-    let counts_at = places::bus_counts(rate);
-    let lane_end = lane_at + places::lane_samples(rate);
-    let counts_end = counts_at + places::LANE_COUNTS;
+    let lane_part = places::lane_part(rate);
+    let bus_part = places::bus_part(rate);
     let lane = open_lane(
         rate,
         setup,
         positions,
         values,
         kicks,
-        &mut store[lane_at..lane_end],
-        &mut counts[counts_at..counts_end],
+        &mut store[lane_part.samples],
+        &mut counts[lane_part.counts],
     );
-    let bus = open_bus(rate, &mut store[0..lane_at], &mut counts[0..counts_at]);
+    let bus = open_bus(
+        rate,
+        &mut store[bus_part.samples],
+        &mut counts[bus_part.counts],
+    );
     Strip {
         position: 0,
         lane,

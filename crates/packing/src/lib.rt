@@ -672,8 +672,8 @@ fn pack_numbers(strip: Strip, numbers: &mut [f64])
     let lane = strip.lane;
     let b = bus_numbers(bus);
     let k = lane_numbers(lane);
-    laying::lay_values(&b, numbers);
-    laying::lay_values(&k, &mut numbers[BUS_NUMBERS..]);
+    laying::lay(&b, numbers);
+    laying::lay(&k, &mut numbers[BUS_NUMBERS..]);
 }
 
 fn pack_words(strip: Strip, words: &mut [u64])
@@ -685,9 +685,9 @@ fn pack_words(strip: Strip, words: &mut [u64])
     let own = [strip.position];
     let b = bus_words(bus);
     let k = lane_words(lane);
-    laying::lay_positions(&own, words);
-    laying::lay_positions(&b, &mut words[OWN_WORDS..]);
-    laying::lay_positions(&k, &mut words[LANE_WORDS_AT..]);
+    laying::lay(&own, words);
+    laying::lay(&b, &mut words[OWN_WORDS..]);
+    laying::lay(&k, &mut words[LANE_WORDS_AT..]);
 }
 
 // A strip laid at its places, and what stands behind it as it was.

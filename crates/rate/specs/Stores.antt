@@ -8,6 +8,7 @@ use Rattle.rate.specs.declared.TapeRate.{TapeRate}
 use Rattle.rate.specs.declared.PlateRate.{PlateRate}
 use Rattle.rate.specs.declared.CeilingRate.{CeilingRate}
 use Rattle.rate.specs.declared.Rate.{Rate}
+use Rattle.rate.specs.declared.places.Part.{Part}
 
 -- ---- the bus
 
@@ -38,3 +39,11 @@ lane_samples r = warp_samples r.tape + most_points
 
 abbrev pub lane_counts : ℕ
 lane_counts = duck_counts + most_points
+
+-- ---- where they lie, from the first place to the one behind the last
+
+abbrev pub bus_part : Rate → Part
+bus_part r = record { samples = record { start = 0; end = bus_samples r }; counts = record { start = 0; end = bus_counts r } }
+
+abbrev pub lane_part : Rate → Part
+lane_part r = record { samples = record { start = bus_samples r; end = bus_samples r + lane_samples r }; counts = record { start = bus_counts r; end = bus_counts r + lane_counts } }

@@ -13,7 +13,7 @@ loop-i-init c = ((wrote_start _ _ (c.requires ∙ sym (added_length _ _ c.requir
 pub loop-i-preserved : goal.loop-i-preserved
 loop-i-preserved c = let l = c.loop-i in
     let s = c.args in
-    let h = c.loop-i-test.true in
+    let h = rw c.requires at c.loop-i-test.true in
     let e = l.invariant.1 in (
       (
         wrote_turn (added s.dry.now s.side.now) l.side l.i _ nan l.invariant.0.0 (rw (added_length s.dry.now s.side.now e) h)
@@ -24,4 +24,4 @@ loop-i-preserved c = let l = c.loop-i in
     )
 
 pub returns : goal.returns
-returns c = let l = c.loop-i in wrote_done _ l.side l.i l.invariant.0.0 (rw (added_length _ _ l.invariant.1) c.loop-i-test.false)
+returns c = let l = c.loop-i in wrote_done _ l.side l.i l.invariant.0.0 (rw (added_length _ _ l.invariant.1) (rw c.requires at c.loop-i-test.false))

@@ -1,4 +1,3 @@
-use Prim.Native.Nat.{◌-◌}
 use lib.ListN.{length}
 use mathlib.Core.Path.{◌≡◌}
 use Rattle.blocks.specs.Run.{added}
@@ -7,6 +6,3 @@ use Rattle.blocks.proofs.add.Given as goal
 
 abbrev pub invariant-loop-i : goal.invariant-loop-i
 invariant-loop-i l = (Wrote (added l.dry l.initial.side) l.side l.i × Ahead l.initial.side l.side l.i) × (length l.initial.side ≡ length l.dry)
-
-abbrev pub decreases-loop-i : goal.decreases-loop-i
-decreases-loop-i l = length l.dry - l.i

@@ -1,7 +1,5 @@
 use native.Mathlib.Omega.{arith}
 use mathlib.Core.Path.{refl, sym, ap, subst⁻¹, ◌∙◌}
-use Prim.Native.Nat.{◌+◌}
-use Rattle.rate.specs.Stores.{lane_counts}
 use Rattle.blocks.specs.Run.{LaneRuns, BusRuns, tuned_of}
 use Rattle.blocks.proofs.Staged.{lane_of_lent, bus_of_lent, block_ended}
 use Rattle.blocks.proofs.block.Goals as goal
@@ -10,29 +8,31 @@ pub lane_block-lane-requires : goal.lane_block-lane-requires
 lane_block-lane-requires c =
     let s = c in
     let g = s.args in
-    let lent = lane_of_lent g.rate s.requires.rate_usable g.strip g.store.now g.counts.now s.requires.runs c.bus_samples-lane_at.result (c.bus_samples-lane_at.result + c.lane_samples.result) c.bus_counts-counts_at.result (c.bus_counts-counts_at.result + lane_counts) c.bus_samples-lane_at.ensures (omega (arith, c.lane_samples.ensures)) c.bus_counts-counts_at.ensures refl in
-    let p = s.requires in record {
+    let lent = lane_of_lent g.rate s.requires.rate_usable g.strip g.store.now g.counts.now s.requires.runs _ _ _ _ refl refl refl refl in
+    let p = s.requires in
+    rw c.lane_part-lane_part.ensures (record {
       rate_usable = p.rate_usable;
       lane_runs = subst⁻¹ (LaneRuns g.rate) lent p.runs.lane;
       tape_value = p.tape_value ∙ ap (tuned_of g.rate g.strip.position) (sym lent);
       piecewise = p.piecewise;
       sent_len = p.outputs.left;
-    }
+    })
 
 pub bus_block-bus-requires : goal.bus_block-bus-requires
 bus_block-bus-requires c =
     let s = c in
     let g = s.args in
     let k = c.lane_block-lane in
-    let lent = bus_of_lent g.rate s.requires.rate_usable g.strip g.store.now g.counts.now s.requires.runs c.bus_samples-lane_at.result (c.bus_samples-lane_at.result + c.lane_samples.result) c.bus_counts-counts_at.result (c.bus_counts-counts_at.result + lane_counts) c.bus_samples-lane_at.ensures (omega (arith, c.lane_samples.ensures)) c.bus_counts-counts_at.ensures refl k.new.samples k.new.counts in
+    let lent = bus_of_lent g.rate s.requires.rate_usable g.strip g.store.now g.counts.now s.requires.runs _ _ _ _ refl refl refl refl k.new.samples k.new.counts in
     let o = s.requires.outputs in
     let d = k.auto.dry in
-    let e = k.auto.sent in record {
+    let e = k.auto.sent in
+    rw (c.lane_part-lane_part.ensures, c.bus_part-bus_part.ensures) (record {
       rate_usable = s.requires.rate_usable;
       bus_runs = subst⁻¹ (BusRuns g.rate) lent s.requires.runs.bus;
       dry_bound = omega (arith, d, s.requires.piecewise.before);
       outputs = record { left = omega (arith, d, e, o.left); right = omega (arith, d, o.right); frames = omega (arith, d, o.frames); gains = omega (arith, d, o.gains) };
-    }
+    })
 
 pub returns : goal.returns
 returns c =
@@ -40,5 +40,8 @@ returns c =
     let g = s.args in
     let k = c.lane_block-lane in
     let b = c.bus_block-bus in
-    block_ended g.rate s.requires.rate_usable g.strip g.store.now g.counts.now s.requires.runs c.bus_samples-lane_at.result (c.bus_samples-lane_at.result + c.lane_samples.result) c.bus_counts-counts_at.result (c.bus_counts-counts_at.result + lane_counts) c.bus_samples-lane_at.ensures (omega (arith, c.lane_samples.ensures)) c.bus_counts-counts_at.ensures refl g.drums g.dry.now k.new.samples k.new.counts k.result b.result b.new.samples b.new.counts _
-    b.new.frames b.new.gains k.ensures.lane_after k.ensures.sents_after b.ensures.bus_after b.ensures.frames_after b.ensures.gains_after
+    let lane = c.lane_part-lane_part.ensures in
+    let bus = c.bus_part-bus_part.ensures in
+    rw (lane, bus)
+    (block_ended g.rate s.requires.rate_usable g.strip g.store.now g.counts.now s.requires.runs _ _ _ _ refl refl refl refl g.drums g.dry.now k.new.samples k.new.counts k.result b.result b.new.samples b.new.counts _
+    b.new.frames b.new.gains (rw lane at k.ensures.lane_after) (rw lane at k.ensures.sents_after) (rw (lane, bus) at b.ensures.bus_after) (rw (lane, bus) at b.ensures.frames_after) (rw (lane, bus) at b.ensures.gains_after))

@@ -33,8 +33,8 @@ block_len-k-requires c =
     let lists = lists_in r (lane_in r (state l.strip l.store l.counts)) in
     (rw c.tuned-tape.ensures (tuned_some r.tape l.strip.lane.setup.tape.tone l.strip.lane.daylight lists.positions lists.values l.strip.position l.strip.lane.tape), omega (arith, c.loop-i-test.true))
 
-pub copy-requires : goal.copy-requires
-copy-requires c =
+pub copy_from_slice-requires : goal.copy_from_slice-requires
+copy_from_slice-requires c =
     let l = c.loop-i in
     let k = c.block_len-k in
     omega (arith, mid_len l.i (l.i + k.result) c.args.samples.now (omega (arith, k.ensures.2, c.loop-i-test.true)), mid_len 0 k.result l.dry (omega (arith, k.ensures.3, l.invariant.1.4)))
@@ -46,7 +46,7 @@ block-strip-requires c =
     let q = c.tuned-tape.ensures in
     let m = c.block_len-k.ensures in
     let e = c.block_len-k.result in
-    let k = mid_len 0 e (put_mid 0 (e - 0) l.dry c.copy.new.block) (room (e - 0) e l.dry c.copy.new.block c.copy.auto.block (omega (arith, m.3, l.invariant.1.4))) in
+    let k = mid_len 0 e (put_mid 0 (e - 0) l.dry c.copy_from_slice.new.self) (room (e - 0) e l.dry c.copy_from_slice.new.self c.copy_from_slice.ensures.len (omega (arith, m.3, l.invariant.1.4))) in
     let h = c.loop-i-test.true in record {
       rate_usable = rw c.cd-rate.ensures usable_44100;
       runs = l.invariant.0.runs;
@@ -74,17 +74,17 @@ loop-i-preserved c =
     let l = c.loop-i in
     let w = c.block-strip in
     let n = c.block_len-k in
-    let k = c.copy in
+    let k = c.copy_from_slice in
     let h = c.loop-i-test.true in
     let u : RateUsable r.result = rw r.ensures usable_44100 in (
       go_turn r.result u s.args.drums (state s.args.strip s.args.store.now s.args.counts.now) s.args.samples.now (state l.strip l.store l.counts) l.frames l.gains l.i _ _ _ l.invariant.0
-          (omega arith) (omega (arith, n.ensures.2, h)) (mid_put (n.result - 0) l.dry k.new.block _ k.auto.block (mid_len 0 n.result l.dry (omega (arith, n.ensures.3, l.invariant.1.4))) k.ensures) w.ensures,
+          (omega arith) (omega (arith, n.ensures.2, h)) (mid_put (n.result - 0) l.dry k.new.self _ k.ensures.len (mid_len 0 n.result l.dry (omega (arith, n.ensures.3, l.invariant.1.4))) k.ensures.after) w.ensures,
       (
         same_len_mid _ _ l.frames w.new.frames w.auto.frames ∙ l.invariant.1.0,
         same_len_mid _ _ l.gains w.new.gains w.auto.gains ∙ l.invariant.1.1,
         w.auto.store ∙ l.invariant.1.2,
         w.auto.counts ∙ l.invariant.1.3,
-        back (n.result - 0) 32 _ w.new.dry w.auto.dry (back (n.result - 0) 32 l.dry k.new.block k.auto.block l.invariant.1.4),
+        back (n.result - 0) 32 _ w.new.dry w.auto.dry (back (n.result - 0) 32 l.dry k.new.self k.ensures.len l.invariant.1.4),
         back (n.result - 0) 32 l.left w.new.left w.auto.left l.invariant.1.5,
         back (n.result - 0) 32 l.right w.new.right w.auto.right l.invariant.1.6,
       ),

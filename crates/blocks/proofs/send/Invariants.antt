@@ -1,4 +1,3 @@
-use Prim.Native.Nat.{◌-◌}
 use lib.ListN.{length}
 use mathlib.Core.Path.{◌≡◌}
 use mathlib.Core.List.{map}
@@ -8,6 +7,3 @@ use Rattle.blocks.proofs.send.Given as goal
 
 abbrev pub invariant-loop-i : goal.invariant-loop-i
 invariant-loop-i l = Wrote (map (λ y. y ⊗ l.level) l.dry) l.sent l.i × (length l.sent ≡ length l.dry)
-
-abbrev pub decreases-loop-i : goal.decreases-loop-i
-decreases-loop-i l = length l.dry - l.i

@@ -12,5 +12,5 @@ pub returns : goal.returns
 returns c =
     let s = c.args in
     let z = c.new in
-    laid_behind duck_counts s.counts.now z.new.counts (search rules) s.positions.now _ c.lay_positions.ensures
+    laid_behind duck_counts s.counts.now z.new.counts (search rules) s.positions.now _ c.lay.ensures
     ∙ ap (λ (d : DuckIn). d.part ++ over s.positions.now (drop duck_counts s.counts.now)) z.ensures

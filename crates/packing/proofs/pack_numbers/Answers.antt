@@ -8,5 +8,5 @@ unfolding packed_numbers
 returns c =
     let s = c.args in
     lay_behind bus_numbers_long (bus_numbers s.strip.bus) (lane_numbers s.strip.lane) s.numbers.now refl
-    (c.lay_values.ensures ∙ rw c.bus_numbers-b.ensures)
-    (c.lay_values-2.ensures ∙ rw c.lane_numbers-k.ensures)
+    (c.lay.ensures ∙ rw c.bus_numbers-b.ensures)
+    (c.lay-2.ensures ∙ rw c.lane_numbers-k.ensures)

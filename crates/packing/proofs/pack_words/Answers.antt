@@ -10,5 +10,5 @@ returns c =
     let s = c.args in
     let own = s.strip.position ∷ [] in
     lay_behind lane_words_at (own ++ bus_words s.strip.bus) (lane_words s.strip.lane) s.words.now refl
-    (lay_behind own_words_long own (bus_words s.strip.bus) s.words.now refl c.lay_positions.ensures (c.lay_positions-2.ensures ∙ rw c.bus_words-b.ensures))
-    (c.lay_positions-3.ensures ∙ rw c.lane_words-k.ensures)
+    (lay_behind own_words_long own (bus_words s.strip.bus) s.words.now refl c.lay.ensures (c.lay-2.ensures ∙ rw c.bus_words-b.ensures))
+    (c.lay-3.ensures ∙ rw c.lane_words-k.ensures)

@@ -1,8 +1,0 @@
-use lib.Ieee.{nan}
-use Rattle.laying.proofs.Laid.{lay_more}
-use Rattle.laying.proofs.lay_values.Goals as goal
-
-pub loop-i-preserved : goal.loop-i-preserved
-loop-i-preserved c =
-    let s = c in
-    lay_more _ _ nan c.loop-i.invariant c.loop-i-test.true s.requires
