@@ -1,1 +1,2 @@
 mod Relates
+mod Table
