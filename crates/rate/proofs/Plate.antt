@@ -5,7 +5,6 @@ use lib.Dec.{lit<, lit≤}
 use lib.Ieee.{Float, binary64, of_bits, to_bits, add, sub, mul, div, neg, le, lt, of_int, to_unsigned, round, to_signed}
 use Rattle.casts.specs.Arithmetic.{◌⊗◌, ◌⊘◌, whole}
 use Rattle.elementary.specs.Elementary.{POW, EXP, LN, SIN, COS, down}
-use lib.Signed.{lt_z}
 use Rattle.casts.specs.Cast.{floored, two_to}
 use Rattle.onepole.specs.OnePole.{pole_of}
 use Rattle.biquad.specs.declared.Coefficients.{Coefficients}
@@ -80,7 +79,7 @@ abbrev fall : ℕ → Float
 fall n = neg (whole 60) ⊘ whole 20 ⊗ (whole n ⊘ whole 44100) ⊘ (whole 4 ⊗ of_bits binary64 0x3ff8_0000_0000_0000)
 
 power : POW (whole 10) (fall 31990) ≡ of_bits binary64 0x3fdb_c393_8428_8b06
-unfolding POW EXP LN down floored two_to round to_signed lt_z of_bits to_bits add sub mul div neg le of_int to_unsigned
+unfolding POW EXP LN down floored two_to round to_signed of_bits to_bits add sub mul div neg le of_int to_unsigned
 power = refl
 
 pub decay_44100 : decay_of 44100 ≡ of_bits binary64 0x3fdb_c393_8428_8b06
@@ -96,7 +95,7 @@ unfolding excursion_of of_bits mul div of_int
 excursion_44100 = refl
 
 pub damping_44100 : damping_of 44100 ≡ of_bits binary64 0x3fdf_63f4_b78b_ab2c
-unfolding damping_of pole_of EXP down floored two_to round to_signed lt_z of_bits add sub mul div neg le of_int to_unsigned
+unfolding damping_of pole_of EXP down floored two_to round to_signed of_bits add sub mul div neg le of_int to_unsigned
 damping_44100 = refl
 
 abbrev pub highpass_cd : Coefficients

@@ -148,6 +148,18 @@ pub struct LineRate {
     pub delay: u64,
 }
 
+impl LineRate {
+    // The line whose ring of so many places lies at `at` of its stage's part.
+    fn new(at: usize, ring: usize, delay: u64) -> LineRate
+        ensures { result ≡ record { line = record { at = at; ring = ring }; delay = delay } }
+    {
+        LineRate {
+            line: DelayLine { at, ring },
+            delay,
+        }
+    }
+}
+
 // The predelay, the four input lattices, and how many places they have together.
 #[derive(Clone, Copy)]
 pub struct InputRate {
@@ -214,38 +226,11 @@ impl InputRate {
         ensures { result ≡ input_rate 44100 }
     {
         InputRate {
-            predelay: LineRate {
-                line: DelayLine { at: 0, ring: 1024 },
-                delay: InputRate::PREDELAY,
-            },
-            diffuser1: LineRate {
-                line: DelayLine {
-                    at: 1024,
-                    ring: 256,
-                },
-                delay: InputRate::DIFFUSER1,
-            },
-            diffuser2: LineRate {
-                line: DelayLine {
-                    at: 1280,
-                    ring: 256,
-                },
-                delay: InputRate::DIFFUSER2,
-            },
-            diffuser3: LineRate {
-                line: DelayLine {
-                    at: 1536,
-                    ring: 1024,
-                },
-                delay: InputRate::DIFFUSER3,
-            },
-            diffuser4: LineRate {
-                line: DelayLine {
-                    at: 2560,
-                    ring: 512,
-                },
-                delay: InputRate::DIFFUSER4,
-            },
+            predelay: LineRate::new(0, 1024, InputRate::PREDELAY),
+            diffuser1: LineRate::new(1024, 256, InputRate::DIFFUSER1),
+            diffuser2: LineRate::new(1280, 256, InputRate::DIFFUSER2),
+            diffuser3: LineRate::new(1536, 1024, InputRate::DIFFUSER3),
+            diffuser4: LineRate::new(2560, 512, InputRate::DIFFUSER4),
             places: 3072,
         }
     }
@@ -273,32 +258,11 @@ impl HalfRate {
         ensures { result ≡ left_rate 44100 }
     {
         HalfRate {
-            diffuser1: LineRate {
-                line: DelayLine { at: 0, ring: 1024 },
-                delay: HalfRate::LEFT_DIFFUSER1,
-            },
+            diffuser1: LineRate::new(0, 1024, HalfRate::LEFT_DIFFUSER1),
             reach: 1007.8544403749873,
-            delay1: LineRate {
-                line: DelayLine {
-                    at: 1024,
-                    ring: 8192,
-                },
-                delay: HalfRate::LEFT_DELAY1,
-            },
-            diffuser2: LineRate {
-                line: DelayLine {
-                    at: 9216,
-                    ring: 4096,
-                },
-                delay: HalfRate::LEFT_DIFFUSER2,
-            },
-            delay2: LineRate {
-                line: DelayLine {
-                    at: 13312,
-                    ring: 8192,
-                },
-                delay: HalfRate::LEFT_DELAY2,
-            },
+            delay1: LineRate::new(1024, 8192, HalfRate::LEFT_DELAY1),
+            diffuser2: LineRate::new(9216, 4096, HalfRate::LEFT_DIFFUSER2),
+            delay2: LineRate::new(13312, 8192, HalfRate::LEFT_DELAY2),
             places: 21504,
             taps: Taps {
                 first: 394,
@@ -317,32 +281,11 @@ impl HalfRate {
         ensures { result ≡ right_rate 44100 }
     {
         HalfRate {
-            diffuser1: LineRate {
-                line: DelayLine { at: 0, ring: 2048 },
-                delay: HalfRate::RIGHT_DIFFUSER1,
-            },
+            diffuser1: LineRate::new(0, 2048, HalfRate::RIGHT_DIFFUSER1),
             reach: 1356.8544403749875,
-            delay1: LineRate {
-                line: DelayLine {
-                    at: 2048,
-                    ring: 8192,
-                },
-                delay: HalfRate::RIGHT_DELAY1,
-            },
-            diffuser2: LineRate {
-                line: DelayLine {
-                    at: 10240,
-                    ring: 4096,
-                },
-                delay: HalfRate::RIGHT_DIFFUSER2,
-            },
-            delay2: LineRate {
-                line: DelayLine {
-                    at: 14336,
-                    ring: 8192,
-                },
-                delay: HalfRate::RIGHT_DELAY2,
-            },
+            delay1: LineRate::new(2048, 8192, HalfRate::RIGHT_DELAY1),
+            diffuser2: LineRate::new(10240, 4096, HalfRate::RIGHT_DIFFUSER2),
+            delay2: LineRate::new(14336, 8192, HalfRate::RIGHT_DELAY2),
             places: 22528,
             taps: Taps {
                 first: 523,
@@ -370,14 +313,11 @@ impl PlateRate {
     pub fn cd() -> PlateRate
         ensures { result ≡ plate_rate 44100 }
     {
-        let input = InputRate::cd();
-        let left = HalfRate::left_cd();
-        let right = HalfRate::right_cd();
         PlateRate {
             sr: 44100,
-            input,
-            left,
-            right,
+            input: InputRate::cd(),
+            left: HalfRate::left_cd(),
+            right: HalfRate::right_cd(),
             decay: PlateRate::DECAY,
             diffusion: PlateRate::DIFFUSION,
             excursion: PlateRate::EXCURSION,
@@ -446,15 +386,12 @@ impl Rate {
     pub fn cd() -> Rate
         ensures { result ≡ rate_of 44100 }
     {
-        let tape = TapeRate::cd();
-        let plate = PlateRate::cd();
-        let ceiling = CeilingRate::cd();
         Rate {
             samples: Rate::SAMPLES,
             counts: Rate::COUNTS,
-            tape,
-            plate,
-            ceiling,
+            tape: TapeRate::cd(),
+            plate: PlateRate::cd(),
+            ceiling: CeilingRate::cd(),
         }
     }
 }

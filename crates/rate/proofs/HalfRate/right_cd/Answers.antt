@@ -3,4 +3,4 @@ use Rattle.rate.proofs.Plate.{right_44100}
 use Rattle.rate.proofs.HalfRate.right_cd.Goals as goal
 
 pub returns : goal.returns
-returns c = sym right_44100
+returns c = rw (c.new.ensures, c.new-2.ensures, c.new-3.ensures, c.new-4.ensures) (sym right_44100)

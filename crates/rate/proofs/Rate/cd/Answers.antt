@@ -4,4 +4,4 @@ use Rattle.rate.proofs.Rate.cd.Goals as goal
 
 pub returns : goal.returns
 unfolding rate_of
-returns c = rw (c.cd-ceiling.ensures, c.cd-plate.ensures, c.cd-tape.ensures)
+returns c = rw (c.cd-3.ensures, c.cd-2.ensures, c.cd.ensures)
