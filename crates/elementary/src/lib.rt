@@ -11,11 +11,6 @@ pub const TAU: f64 = 6.28318530717958647692528676655900577;
 
 pub const LN2: f64 = 0.693147180559945309417232121458176568;
 
-// The pattern of the f64 1, and in an f64's pattern one of the exponent's field.
-const ONE: u64 = 0x3ff0_0000_0000_0000;
-
-const FIELD: u64 = 0x0010_0000_0000_0000;
-
 // "For j = n down to 1": what the steps make of the first value.
 fn stepped<F: Fn(u32, f64) -> f64>(n: u32, first: f64, step: F) -> f64
     requires { (j : ℕ) (t : Float) → 0 < j → j ≤ n → F.pre step j t }
@@ -73,8 +68,8 @@ pub fn ln(x: f64) -> f64
     ensures { result ≡ LN x }
 {
     let b = casts::bits_of_f64(x);
-    let m = f64::from_bits(ONE + b % FIELD);
-    let k = std::num::nearest_i64_to_f64((b / FIELD) as i64 - 1023);
+    let m = f64::from_bits(casts::ONE + b % casts::FIELD);
+    let k = std::num::nearest_i64_to_f64((b / casts::FIELD) as i64 - 1023);
     let y = (m - 1.0) / (m + 1.0);
     let z = y * y;
     let s = stepped(20, 1.0 / 41.0, |i, s| 1.0 / f64::from(2 * i - 1) + z * s);

@@ -21,16 +21,6 @@ pub struct Ramp {
     pub shape: Shape,
 }
 
-// The value x of the way.
-fn shaped(shape: Shape, from: f64, to: f64, x: f64) -> f64
-    ensures { result ≡ shaped shape from to x }
-{
-    match shape {
-        Shape::Linear => from * (1.0 - x) + to * x,
-        Shape::Db => from * elementary::pow(to / from, x),
-    }
-}
-
 impl Ramp {
     // The value from position 0 on.
     pub fn held(value: f64, shape: Shape) -> Ramp
@@ -49,10 +39,17 @@ impl Ramp {
     pub fn ended(self, n: u64) -> bool
         ensures { result ≡ nat_le (ramp_end self) n }
     {
-        if n < self.start {
-            return false;
+        self.start <= n && self.len <= n - self.start
+    }
+
+    // The value x of the way.
+    fn shaped(self, x: f64) -> f64
+        ensures { result ≡ shaped self.shape self.from self.to x }
+    {
+        match self.shape {
+            Shape::Linear => self.from * (1.0 - x) + self.to * x,
+            Shape::Db => self.from * elementary::pow(self.to / self.from, x),
         }
-        self.len <= n - self.start
     }
 
     // The value at n: exactly `to` from the end on.
@@ -60,15 +57,13 @@ impl Ramp {
         ensures { result ≡ ramp_at self n }
     {
         if self.ended(n) {
-            return self.to;
+            self.to
+        } else if n <= self.start {
+            self.from
+        } else {
+            let gone = std::num::nearest_u64_to_f64(n - self.start);
+            self.shaped(gone / std::num::nearest_u64_to_f64(self.len))
         }
-        if n <= self.start {
-            return self.from;
-        }
-        let gone = std::num::nearest_u64_to_f64(n - self.start);
-        let x = gone / std::num::nearest_u64_to_f64(self.len);
-        let shape = self.shape;
-        shaped(shape, self.from, self.to, x)
     }
 
     // From the value at n to `to` over len samples; one already headed for `to` keeps its course.
@@ -76,16 +71,15 @@ impl Ramp {
         ensures { result ≡ toward self n to len }
     {
         if self.to == to {
-            return self;
-        }
-        let from = self.at(n);
-        let shape = self.shape;
-        Ramp {
-            from,
-            to,
-            start: n,
-            len,
-            shape,
+            self
+        } else {
+            Ramp {
+                from: self.at(n),
+                to,
+                start: n,
+                len,
+                ..self
+            }
         }
     }
 }

@@ -19,9 +19,6 @@ pub struct Frame {
 pub fn flush(v: f64) -> f64
     ensures { result ≡ flushed v }
 {
-    let field = f64::to_bits(casts::lesser(1.0, v)) / 4503599627370496 % 2048;
-    if field < FLUSH_FIELD {
-        return 0.0;
-    }
-    v
+    let field = casts::lesser(1.0, v).to_bits() / casts::FIELD % 2048;
+    if field < FLUSH_FIELD { 0.0 } else { v }
 }

@@ -14,5 +14,5 @@ float_to_bits-field c = subst (λ (x : Float). T (not (is_nan x))) (sym c.lesser
 pub returns-then-field-lt-FLUSH_FIELD : goal.returns-then-field-lt-FLUSH_FIELD
 returns-then-field-lt-FLUSH_FIELD c = flushes c.args.v c.lesser.result (subst T (sym c.well_formed.0.1) tt) c.lesser.ensures (omega (arith, c.if-field-lt-FLUSH_FIELD.true))
 
-pub returns : goal.returns
-returns c = stays c.args.v c.lesser.result (subst T (sym c.well_formed.0.1) tt) c.lesser.ensures (omega (arith, c.if-field-lt-FLUSH_FIELD.false))
+pub returns-else-field-lt-FLUSH_FIELD : goal.returns-else-field-lt-FLUSH_FIELD
+returns-else-field-lt-FLUSH_FIELD c = stays c.args.v c.lesser.result (subst T (sym c.well_formed.0.1) tt) c.lesser.ensures (omega (arith, c.if-field-lt-FLUSH_FIELD.false))
