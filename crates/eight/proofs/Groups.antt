@@ -1,72 +1,37 @@
--- A list whose first i numbers are done: one more, eight more, all of them. Assumes nothing.
-use mathlib.Core.Path.{◌≡◌, refl, ap, sym, ◌∙◌}
-use mathlib.Core.List.{List, [], ◌∷◌, map}
-use Prim.Native.Nat.{ℕ, zero, suc, ◌+◌, ◌≤◌, ◌<◌}
-use native.Mathlib.Nat.{add-zero}
-use native.Mathlib.Omega.{arith}
-use lib.ListN.{length, get_or, set}
-use lib.Ieee.{Float}
-use Rattle.eight.specs.Each.{each, eight_at, put_eight}
-use Rattle.casts.specs.Arithmetic.{nought}
+-- A list whose first i numbers are done: done up to e, and all of them. Assumes nothing.
+use Rattle.std.proofs.Common.{◌≡◌, ℕ, ◌+◌, ◌-◌, ◌<◌, ◌≤◌, List, [], ◌∷◌, map, ◌++◌, length, take, drop, get_or, set, ap, sym, ◌∙◌, arith, append_assoc, append-nil, length-take-le}
+use Rattle.std.proofs.lemmas.List.{take_at, drop_at, drop-drop, take_all, drop_all, map-append, length-map, map_more, drop_more, set_at}
+use lib.Seq.{take-add}
+use Rattle.std.proofs.lemmas.Grind.{common_steps}
+use borrow.Rule.Slice.PartMut.{put_mid, mid_of}
+use lib.Ieee.{Float, nan}
 
--- the first i numbers are f of what they were
-pub map_to : (Float → Float) → ℕ → List Float → List Float
-map_to f zero l = l
-map_to f (suc i) [] = []
-map_to f (suc i) (x ∷ l) = f x ∷ map_to f i l
+module _ (f : Float → Float) (s₀ : List Float) where
+  abbrev pub done_to : ℕ → List Float
+  done_to i = map f (take i s₀) ++ drop i s₀
 
-pub map_to_zero : (f : Float → Float) (l : List Float) → map_to f 0 l ≡ l
-unfolding map_to
-map_to_zero f l = refl
+  pub done_group : (i e : ℕ) (s ys : List Float) → s ≡ done_to i → i ≤ e → e ≤ length s₀ → ys ≡ map f (mid_of i (e - i) s) → put_mid i (e - i) s ys ≡ done_to e
+  done_group i e s ys done up within part =
+      let all : i + (e - i) ≡ e = omega arith in
+      let long : length (map f (take i s₀)) ≡ i = length-map (take i s₀) f ∙ length-take-le i s₀ (omega arith) in
+      let first : take i s ≡ map f (take i s₀) = ap (take i) done ∙ take_at (map f (take i s₀)) (drop i s₀) i long in
+      let rest : drop i s ≡ drop i s₀ = ap (drop i) done ∙ drop_at (map f (take i s₀)) (drop i s₀) i long in
+      let last : drop (e - i) (drop i s) ≡ drop e s₀ = ap (drop (e - i)) rest ∙ drop-drop (e - i) i s₀ ∙ ap (λ (n : ℕ). drop n s₀) all in
+      let new : ys ≡ map f (take (e - i) (drop i s₀)) = part ∙ ap (λ (l : List Float). map f (take (e - i) l)) rest in
+      let both : map f (take e s₀) ≡ map f (take i s₀) ++ map f (take (e - i) (drop i s₀)) =
+      ap (λ (n : ℕ). map f (take n s₀)) (sym all) ∙ ap (map f) (take-add i (e - i) s₀) ∙ map-append f (take i s₀) (take (e - i) (drop i s₀)) in
+      rw (first, new, last, both) (sym (append_assoc (map f (take i s₀)) (map f (take (e - i) (drop i s₀))) (drop e s₀)))
 
-pub map_to_length : (f : Float → Float) (i : ℕ) (l : List Float) → length (map_to f i l) ≡ length l
-unfolding map_to
-map_to_length f zero l = refl
-map_to_length f (suc i) [] = refl
-map_to_length f (suc i) (x ∷ l) = ap suc (map_to_length f i l)
+  pub done_one : (i : ℕ) (s : List Float) (v : Float) → s ≡ done_to i → i < length s₀ → v ≡ f (get_or s₀ i nan) → set s i v ≡ done_to (i + 1)
+  done_one i s v done within new =
+      let long : length (map f (take i s₀)) ≡ i = length-map (take i s₀) f ∙ length-take-le i s₀ (omega (arith, within)) in
+      let next : drop i s₀ ≡ get_or s₀ i nan ∷ drop (i + 1) s₀ = drop_more s₀ i nan within in
+      let old : s ≡ map f (take i s₀) ++ get_or s₀ i nan ∷ drop (i + 1) s₀ = done ∙ ap (λ (t : List Float). map f (take i s₀) ++ t) next in
+      rw (old, new, map_more f s₀ i nan within) (set_at (map f (take i s₀)) (get_or s₀ i nan) (drop (i + 1) s₀) (f (get_or s₀ i nan)) i long ∙ sym (append_assoc (map f (take i s₀)) (f (get_or s₀ i nan) ∷ []) (drop (i + 1) s₀)))
 
-pub map_to_all : (f : Float → Float) (i : ℕ) (l : List Float) → length l ≤ i → map_to f i l ≡ map f l
-unfolding map_to
-map_to_all f zero [] h = refl
-map_to_all f zero (x ∷ l) h = absurd (omega arith)
-map_to_all f (suc i) [] h = refl
-map_to_all f (suc i) (x ∷ l) h = ap (λ (t : List Float). f x ∷ t) (map_to_all f i l (omega arith))
+  pub done_all : (i : ℕ) → length s₀ ≤ i → done_to i ≡ map f s₀
+  done_all i h = rw (take_all i s₀ h, drop_all i s₀ h) (append-nil (map f s₀))
 
-map_to_later : (f : Float → Float) (i : ℕ) (l : List Float) (j : ℕ) (d : Float) → i ≤ j → get_or (map_to f i l) j d ≡ get_or l j d
-unfolding map_to
-map_to_later f zero l j d h = refl
-map_to_later f (suc i) [] j d h = refl
-map_to_later f (suc i) (x ∷ l) zero d h = absurd (omega arith)
-map_to_later f (suc i) (x ∷ l) (suc j) d h = map_to_later f i l j d (omega arith)
-
-map_to_more : (f : Float → Float) (i : ℕ) (l : List Float) (d : Float) → set (map_to f i l) i (f (get_or l i d)) ≡ map_to f (suc i) l
-unfolding map_to
-map_to_more f zero [] d = refl
-map_to_more f zero (x ∷ l) d = refl
-map_to_more f (suc i) [] d = refl
-map_to_more f (suc i) (x ∷ l) d = ap (λ (t : List Float). f x ∷ t) (map_to_more f i l d)
-
--- one more, at i + k
-more : (f : Float → Float) (i k : ℕ) (l : List Float) (d : Float) → set (map_to f (i + k) l) (i + k) (f (get_or l (i + k) d)) ≡ map_to f (i + suc k) l
-more f i k l d =
-    let e : suc (i + k) ≡ i + suc k = omega arith in
-    map_to_more f (i + k) l d ∙ ap (λ (n : ℕ). map_to f n l) e
-
-later : (f : Float → Float) (i k : ℕ) (l : List Float) (d : Float) → get_or (map_to f i l) (i + k) d ≡ get_or l (i + k) d
-later f i k l d = map_to_later f i l (i + k) d (omega arith)
-
-pub map_to_group : (f : Float → Float) (i : ℕ) (l : List Float) → put_eight (map_to f i l) i (each f (eight_at (map_to f i l) i)) ≡ map_to f (i + 8) l
-map_to_group f i l =
-    let z = nought in
-    let s : map_to f i l ≡ map_to f (i + 0) l = ap (λ (n : ℕ). map_to f n l) (sym (add-zero i)) in
-    rw (later f i 0 l z, later f i 1 l z, later f i 2 l z, later f i 3 l z, later f i 4 l z, later f i 5 l z, later f i 6 l z, later f i 7 l z)
-    (rw (s, more f i 0 l z, more f i 1 l z, more f i 2 l z, more f i 3 l z, more f i 4 l z, more f i 5 l z, more f i 6 l z, more f i 7 l z))
-
--- within the list, what is read past its end does not matter
-pub get_d_any : (l : List Float) (i : ℕ) (d e : Float) → i < length l → get_or l i d ≡ get_or l i e
-get_d_any [] i d e h = absurd (omega arith)
-get_d_any (x ∷ l) zero d e h = refl
-get_d_any (x ∷ l) (suc i) d e h = get_d_any l i d e (omega arith)
-
-pub within : (f : Float → Float) (i : ℕ) (s s₀ : List Float) → s ≡ map_to f i s₀ → i < length s → i < length s₀
-within f i s s₀ e h = omega (arith, ap length e, map_to_length f i s₀)
+-- one more number copied from s
+pub copied : (s x : List Float) (i : ℕ) → i < length x → ((k : ℕ) → k < i → get_or x k nan ≡ get_or s k nan) → (k : ℕ) → k < i + 1 → get_or (set x i (get_or s i nan)) k nan ≡ get_or s k nan
+copied s x i within same k h = grind (arith, common_steps, same k)

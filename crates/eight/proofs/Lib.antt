@@ -1,4 +1,5 @@
-mod Downs
+pub mod Lanes
 mod Alike
 mod Groups
+mod Waves
 pub mod Row

@@ -23,12 +23,6 @@ swell_of rate (Some pad) n = add binary32 one (mul binary32 pad.depth (SIN32 (ph
 unfoldable pub warp_delay : TapeRate → ℕ → Float
 warp_delay r n = r.reach ⊖ r.wow.a ⊗ SIN (r.wow.w ⊗ whole n) ⊖ r.flutter.a ⊗ SIN (r.flutter.w ⊗ whole n)
 
--- ---- their sines being in hand
-
 -- the swell whose sine is s, in f32
 abbrev pub swelled : Float → Float → Float
 swelled depth s = add binary32 one (mul binary32 depth (narrowed s))
-
--- the warp's delay at the sines of wow and flutter
-abbrev pub read_at : TapeRate → Float → Float → Float
-read_at r wow flutter = r.reach ⊖ r.wow.a ⊗ wow ⊖ r.flutter.a ⊗ flutter

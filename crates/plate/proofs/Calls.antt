@@ -1,7 +1,6 @@
 -- What the calls of a function give, put together as its definition. Assumes nothing.
-use Rattle.std.proofs.Common.{◌≡◌, ℕ, ◌+◌, ◌-◌, ◌≤◌, List, length}
+use Rattle.std.proofs.Common.{◌≡◌, ℕ, ◌+◌, List, ◌++◌, take, drop}
 use lib.Ieee.{Float}
-use borrow.Rule.Slice.PartMut.{mid_of, put_mid}
 use Rattle.casts.specs.Arithmetic.{◌⊕◌, ◌⊗◌}
 use Rattle.stage.specs.Stage.{Step}
 use Rattle.stream.specs.declared.Frame.{Frame}
@@ -18,7 +17,6 @@ use Rattle.plate.specs.declared.Tank.{Tank}
 use Rattle.plate.specs.declared.Plate.{Plate}
 use Rattle.plate.specs.Machine.{input_diffusion1, input_diffusion2, decay_diffusion1, stretch_of}
 use Rattle.plate.specs.Plate.{input_on, half_in, half_from, half_on, leaving_on, taps_on, TankIn, tank_in, fed_on, halves_on, returned_on, tank_on, plate_on, plate_step_on}
-use Rattle.plate.proofs.Parts.{first_is, second_is, second_after, put_both}
 
 pub input_is : (r : InputRate) (n : ℕ) (s : List Float) (x : Float) (p a b c d : Step (List Float) Float) → p ≡ delay_on r.predelay n s x
     → a ≡ lattice_on r.diffuser1 input_diffusion1 n p.next p.out
@@ -44,30 +42,27 @@ module _ (r : HalfRate) (decay diffusion : Float) (n : ℕ) (q : OnePole) (s : L
 
 -- ---- the halves, each on its own places of the tank's part
 
-module _ (r : PlateRate) (n : ℕ) (s : List Float) (room : r.left.places ≤ length s) where
-  pub halves_is : (tank : Tank) (fed stretch : Frame) (a b : Float) (left right : OnePole) (ys zs : List Float) → length ys ≡ r.left.places
-      → a ≡ stretched_at r.left.diffuser1 r.left.reach stretch.left n (mid_of 0 (r.left.places - 0) s)
-      → half_in left ys ≡ half_from r.left r.decay r.diffusion n (half_in tank.left (mid_of 0 (r.left.places - 0) s)) fed.left a
-      → b ≡ stretched_at r.right.diffuser1 r.right.reach stretch.right n (mid_of r.left.places (length s - r.left.places) (put_mid 0 (r.left.places - 0) s ys))
-      → half_in right zs ≡ half_from r.right r.decay r.diffusion n (half_in tank.right (mid_of r.left.places (length s - r.left.places) (put_mid 0 (r.left.places - 0) s ys))) fed.right b
-      → tank_in (record { left = left; right = right }) (put_mid r.left.places (length s - r.left.places) (put_mid 0 (r.left.places - 0) s ys) zs) ≡ halves_on r n (tank_in tank s) fed stretch
+module _ (r : PlateRate) (n : ℕ) (s ls rs : List Float) (first : ls ≡ take r.left.places s) (second : rs ≡ drop r.left.places s) where
+  pub halves_is : (tank : Tank) (fed stretch : Frame) (a b : Float) (left right : OnePole) (ys zs : List Float) → a ≡ stretched_at r.left.diffuser1 r.left.reach stretch.left n ls
+      → half_in left ys ≡ half_from r.left r.decay r.diffusion n (half_in tank.left ls) fed.left a
+      → b ≡ stretched_at r.right.diffuser1 r.right.reach stretch.right n rs
+      → half_in right zs ≡ half_from r.right r.decay r.diffusion n (half_in tank.right rs) fed.right b
+      → tank_in (record { left = left; right = right }) (ys ++ zs) ≡ halves_on r n (tank_in tank s) fed stretch
   unfolding halves_on half_on
-  halves_is tank fed stretch a b left right ys zs l d1 e1 d2 e2 =
-      let f1 = rw (d1, first_is s r.left.places room) at e1 in
-      let f2 = rw (d2, second_after s r.left.places room ys l) at e2 in
-      rw (put_both s r.left.places room ys l zs, ← f1, ← f2)
+  halves_is tank fed stretch a b left right ys zs d1 e1 d2 e2 =
+      let f1 = rw (d1, first) at e1 in
+      let f2 = rw (d2, second) at e2 in
+      rw (← f1, ← f2)
 
-  pub fed_is : (x left right : Float) → left ≡ leaving_on r.left n (mid_of 0 (r.left.places - 0) s) → right ≡ leaving_on r.right n (mid_of r.left.places (length s - r.left.places) s)
+  pub fed_is : (x left right : Float) → left ≡ leaving_on r.left n ls → right ≡ leaving_on r.right n rs
       → ◌≡◌ {A = Frame} (record { left = x ⊕ r.decay ⊗ right; right = x ⊕ r.decay ⊗ left }) (fed_on r n s x)
   unfolding fed_on
-  fed_is x left right e1 e2 = rw (e1, e2, first_is s r.left.places room, second_is s r.left.places room)
+  fed_is x left right e1 e2 = rw (e1, e2, first, second)
 
-  pub returned_is : (left right : Float)
-      → left ≡ taps_on r.left.taps r.right r.left n (mid_of r.left.places (length s - r.left.places) s) (mid_of 0 (r.left.places - 0) s)
-      → right ≡ taps_on r.right.taps r.left r.right n (mid_of 0 (r.left.places - 0) s) (mid_of r.left.places (length s - r.left.places) s)
+  pub returned_is : (left right : Float) → left ≡ taps_on r.left.taps r.right r.left n rs ls → right ≡ taps_on r.right.taps r.left r.right n ls rs
       → ◌≡◌ {A = Frame} (record { left = left; right = right }) (returned_on r n s)
   unfolding returned_on
-  returned_is left right e1 e2 = rw (e1, e2, first_is s r.left.places room, second_is s r.left.places room)
+  returned_is left right e1 e2 = rw (e1, e2, first, second)
 
 -- ---- the tank
 
@@ -78,16 +73,14 @@ tank_is r n tank tank' s s' x fed stretch frame e1 e2 e3 e4 = let f = rw (e1, e2
 
 -- ---- the plate: the input's places and the tank's
 
-module _ (r : PlateRate) (n : ℕ) (plate : Plate) (s : List Float) (x : Float) (room : r.input.places ≤ length s) where
-  pub step_is : (i : Step (List Float) Float) (t : Step TankIn Frame) (left right : Section) → length i.next ≡ r.input.places
-      → i ≡ input_on r.input n (mid_of 0 (r.input.places - 0) s) x
-      → t ≡ tank_on r n (tank_in plate.tank (mid_of r.input.places (length s - r.input.places) (put_mid 0 (r.input.places - 0) s i.next))) i.out
+module _ (r : PlateRate) (n : ℕ) (plate : Plate) (s is ts : List Float) (x : Float) (first : is ≡ take r.input.places s) (second : ts ≡ drop r.input.places s) where
+  pub step_is : (i : Step (List Float) Float) (t : Step TankIn Frame) (left right : Section) → i ≡ input_on r.input n is x
+      → t ≡ tank_on r n (tank_in plate.tank ts) i.out
       → left ≡ section_step plate.left t.out.left
       → right ≡ section_step plate.right t.out.right
-      → gave (plate_on (record { tank = t.next.tank; left = left; right = right }) (put_mid r.input.places (length s - r.input.places) (put_mid 0 (r.input.places - 0) s i.next) t.next.part)) (record { left = left.y1; right = right.y1 })
-      ≡ plate_step_on r n (plate_on plate s) x
+      → gave (plate_on (record { tank = t.next.tank; left = left; right = right }) (i.next ++ t.next.part)) (record { left = left.y1; right = right.y1 }) ≡ plate_step_on r n (plate_on plate s) x
   unfolding plate_step_on
-  step_is i t left right l e1 e2 e3 e4 =
-      let f1 = rw (first_is s r.input.places room) at e1 in
-      let f2 = rw (second_after s r.input.places room i.next l) at e2 in
-      rw (put_both s r.input.places room i.next l t.next.part) (rw (e3, e4, f2, f1))
+  step_is i t left right e1 e2 e3 e4 =
+      let f1 = rw first at e1 in
+      let f2 = rw second at e2 in
+      rw (e3, e4, f2, f1)

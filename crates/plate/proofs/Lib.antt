@@ -1,9 +1,7 @@
 -- The laws of the plate's step, and the theorem: the part's step is the machine's.
-pub mod Parts
 pub mod Room
 pub mod Calls
 pub mod Turns
-mod Swing
 pub mod InputHeld
 pub mod HalfHeld
 pub mod Theorem

@@ -1,5 +1,5 @@
 -- The plate's loops over a block, one list in and two out: what holds after i samples, and that a sample and a group of samples keep it. Assumes nothing.
-use Rattle.std.proofs.Common.{◌≡◌, ℕ, zero, suc, ◌+◌, ◌-◌, ◌<◌, ◌≤◌, List, [], ◌∷◌, map, length, get_or, take, drop, set, sym, refl, ap, ◌∙◌, arith, drop-drop}
+use Rattle.std.proofs.Common.{◌≡◌, ℕ, zero, suc, ◌+◌, ◌-◌, ◌<◌, ◌≤◌, List, [], ◌∷◌, map, length, get_or, take, drop, set, sym, refl, ap, ◌∙◌, arith, drop-drop, subst}
 use lib.ListN.{length-map}
 use borrow.Rule.Slice.PartMut.{mid_of, put_mid, mid_len, drop_put}
 use lib.Ieee.{Float, nan}
@@ -88,6 +88,9 @@ module _ (r : PlateRate) (n : ℕ) (s₀ : PlateIn) (xs : List Float) where
         sized = m.sized ∙ all (λ (f : Frame). f.right) ∙ sym (l.sized ∙ all (λ (f : Frame). f.left));
         kept = z ∙ p.kept;
       }
+
+  pub plate_up_to : (s : PlateIn) (ls rs : List Float) (e j : ℕ) → e ≡ j → Plating r n s₀ xs s ls rs e → Plating r n s₀ xs s ls rs j
+  plate_up_to s ls rs e j same p = let P : ℕ → Type 0 = λ k. Plating r n s₀ xs s ls rs k in subst P same p
 
   pub plate_done : (s : PlateIn) (ls rs : List Float) (i : ℕ) → Plating r n s₀ xs s ls rs i → length ls ≤ i
       → (s ≡ ran (plate_step_on r) n s₀ xs) × ((ls ≡ map (λ (f : Frame). f.left) (outs (plate_step_on r) n s₀ xs)) × (rs ≡ map (λ (f : Frame). f.right) (outs (plate_step_on r) n s₀ xs)))

@@ -106,6 +106,9 @@ turn_of sr n =
 unfoldable pub stretch_of : PlateRate → ℕ → Frame
 stretch_of r n = record { left = r.excursion ⊗ SIN (turn_of r.sr n); right = r.excursion ⊗ COS (turn_of r.sr n) }
 
+abbrev pub frame : Float → Float → Frame
+frame left right = record { left = left; right = right }
+
 unfoldable pub tank_step : PlateRate → ℕ → TankMachine → Float → TankMachine
 tank_step r n m x =
     let fed = fed_of r m x in

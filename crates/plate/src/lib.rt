@@ -3,22 +3,23 @@
 // stream, onepole, biquad, delay, rate and allpass.
 #![tactic(auto)]
 
-ghost use Rattle.std.specs.Prelude.{◌≡◌, ◌+◌, ◌<◌, ◌≤◌, map, length};
+ghost use Rattle.std.specs.Prelude.{◌≡◌, ℕ, ◌+◌, ◌<◌, ◌≤◌, map, length, slice_index_or};
 ghost use Rattle.stream.specs.declared.Frame.{Frame};
-ghost use Rattle.casts.specs.Arithmetic.{◌⊗◌};
-ghost use Rattle.eight.specs.Each.{each, eight_of, listed, Laid};
+ghost use Rattle.std.specs.Simd.Lanes.{zip2};
+ghost use Rattle.eight.specs.Each.{eight_of};
 ghost use Rattle.stage.specs.Stage.{ran, outs};
 ghost use Rattle.allpass.specs.Allpass.{gave, stretched_at};
 ghost use Rattle.rate.specs.Plate.{InputUsable, HalfUsable, TapsUsable, PlateUsable};
 ghost use Rattle.ranges.specs.Ranges.{last_position};
-ghost use Rattle.plate.specs.Machine.{turn_of, stretch_of};
+ghost use Rattle.plate.specs.Machine.{turn_of, stretch_of, frame};
 ghost use Rattle.rate.specs.Stores.{plate_samples};
 ghost use Rattle.plate.specs.Plate.{input_on, half_in, half_from, leaving_on, taps_on, tank_in, fed_on, halves_on, returned_on, tank_on, plate_on, plate_step_on, fresh_on, quiet_of, at_rest_on};
 
 use biquad::Section;
-use eight::Eight;
 use onepole::OnePole;
 use rate::{HalfRate, InputRate, PlateRate, Taps};
+use std::array;
+use std::simd::prelude::*;
 use stream::Frame;
 
 const INPUT_DIFFUSION_1: f64 = 0.75;
@@ -137,7 +138,7 @@ fn taps(t: Taps, other: HalfRate, own: HalfRate, there: &[f64], here: &[f64], n:
 fn turn(sr: u32, n: u64) -> f64
     ensures { result ≡ turn_of sr n }
 {
-    let t = LFO_HZ * std::num::nearest_u64_to_f64(n) / (sr as f64);
+    let t = LFO_HZ * std::num::nearest_u64_to_f64(n) / f64::from(sr);
     elementary::TAU * (t - std::num::nearest_u64_to_f64(casts::whole_part(t)))
 }
 
@@ -154,61 +155,49 @@ fn stretch(rate: PlateRate, n: u64) -> Frame
     }
 }
 
-// The stretches of eight frames.
-#[derive(Clone, Copy)]
-struct Stretches {
-    left: [f64; 8],
-    right: [f64; 8],
-}
-
 // The LFO's angles at the eight frames from n on.
-fn angles(sr: u32, n: u64) -> Eight
+fn angles(sr: u32, n: u64) -> f64x8
     requires { n ≤ last_position }
     ensures { result ≡ eight_of (λ j. turn_of sr (n + j)) }
 {
-    Eight {
-        a: turn(sr, n + 0),
-        b: turn(sr, n + 1),
-        c: turn(sr, n + 2),
-        d: turn(sr, n + 3),
-        e: turn(sr, n + 4),
-        f: turn(sr, n + 5),
-        g: turn(sr, n + 6),
-        h: turn(sr, n + 7),
-    }
+    f64x8::from_array(array::from_fn(|j| turn(sr, n + j as u64)))
 }
 
-fn scaled(k: f64, x: Eight) -> [f64; 8]
-    ensures { result ≡ listed (each (λ v. k ⊗ v) x) }
+// Frames of two sides.
+fn frames(left: f64x8, right: f64x8) -> [Frame; 8]
+    ensures { result ≡ zip2 frame left right }
 {
-    [
-        k * x.a,
-        k * x.b,
-        k * x.c,
-        k * x.d,
-        k * x.e,
-        k * x.f,
-        k * x.g,
-        k * x.h,
-    ]
+    let left = left.to_array();
+    let right = right.to_array();
+    array::from_fn(|j| Frame {
+        left: left[j],
+        right: right[j],
+    })
 }
 
-// The stretches of the count frames from n on, by eight angles at once. A frame alone is cheaper by the plain functions.
-fn lfo(rate: PlateRate, n: u64, count: usize) -> Stretches
+// The stretches of the eight frames from n on.
+fn stretch_eight(rate: PlateRate, n: u64) -> [Frame; 8]
+    requires { n ≤ last_position }
+    ensures { result ≡ eight_of (λ j. stretch_of rate (n + j)) }
+{
+    let angles = angles(rate.sr, n);
+    let excursion = f64x8::splat(rate.excursion);
+    frames(
+        excursion * eight::sin_eight(angles),
+        excursion * eight::cos_eight(angles),
+    )
+}
+
+// The stretches of the count frames from n on. A frame alone is cheaper by the plain functions.
+fn lfo(rate: PlateRate, n: u64, count: usize) -> [Frame; 8]
     requires { (n ≤ last_position) × (count ≤ 8) }
-    ensures left { Laid count (λ j. (stretch_of rate (n + j)).left) result.left }
-    ensures right { Laid count (λ j. (stretch_of rate (n + j)).right) result.right }
+    ensures { (j : ℕ) (d : Frame) → j < count → slice_index_or result j d ≡ stretch_of rate (n + j) }
 {
     if count < 2 {
-        let one = stretch(rate, n);
-        let left = [one.left; 8];
-        let right = [one.right; 8];
-        return Stretches { left, right };
+        [stretch(rate, n); 8]
+    } else {
+        stretch_eight(rate, n)
     }
-    let angles = angles(rate.sr, n);
-    let left = scaled(rate.excursion, eight::sin_eight(angles));
-    let right = scaled(rate.excursion, eight::cos_eight(angles));
-    Stretches { left, right }
 }
 
 // What each half is fed: the input, and what leaves the other.
@@ -217,10 +206,9 @@ fn fed(rate: PlateRate, part: &[f64], x: f64, n: u64) -> Frame
     requires part_len { length part.now ≡ rate.left.places + rate.right.places }
     ensures { result ≡ fed_on rate n part.now x }
 {
-    let k = rate.left.places;
-    let e = part.len();
-    let left = leaving(rate.left, &part[0..k], n);
-    let right = leaving(rate.right, &part[k..e], n);
+    let (left, right) = part.split_at(rate.left.places);
+    let left = leaving(rate.left, left, n);
+    let right = leaving(rate.right, right, n);
     Frame {
         left: x + rate.decay * right,
         right: x + rate.decay * left,
@@ -233,26 +221,25 @@ fn halves(rate: PlateRate, tank: Tank, part: &mut [f64], fed: Frame, stretch: Fr
     requires part_len { (length part.old ≡ rate.left.places + rate.right.places) × (n < last_position) }
     ensures { tank_in result part.new ≡ halves_on rate n (tank_in tank part.old) fed stretch }
 {
-    let k = rate.left.places;
-    let e = part.len();
-    let first = first_at(rate.left, &part[0..k], stretch.left, n);
+    let (left_part, right_part) = part.split_at_mut(rate.left.places);
+    let first = first_at(rate.left, left_part, stretch.left, n);
     let left = half(
         rate.left,
         rate.decay,
         rate.diffusion,
         tank.left,
-        &mut part[0..k],
+        left_part,
         fed.left,
         first,
         n,
     );
-    let first = first_at(rate.right, &part[k..e], stretch.right, n);
+    let first = first_at(rate.right, right_part, stretch.right, n);
     let right = half(
         rate.right,
         rate.decay,
         rate.diffusion,
         tank.right,
-        &mut part[k..e],
+        right_part,
         fed.right,
         first,
         n,
@@ -266,25 +253,11 @@ fn returned(rate: PlateRate, part: &[f64], n: u64) -> Frame
     requires part_len { length part.now ≡ rate.left.places + rate.right.places }
     ensures { result ≡ returned_on rate n part.now }
 {
-    let k = rate.left.places;
-    let e = part.len();
-    let left = taps(
-        rate.left.taps,
-        rate.right,
-        rate.left,
-        &part[k..e],
-        &part[0..k],
-        n,
-    );
-    let right = taps(
-        rate.right.taps,
-        rate.left,
-        rate.right,
-        &part[0..k],
-        &part[k..e],
-        n,
-    );
-    Frame { left, right }
+    let (left, right) = part.split_at(rate.left.places);
+    Frame {
+        left: taps(rate.left.taps, rate.right, rate.left, right, left, n),
+        right: taps(rate.right.taps, rate.left, rate.right, left, right, n),
+    }
 }
 
 // The tank's step: x comes from the input lattices.
@@ -321,10 +294,9 @@ fn step(
     requires part_len { (length part.old ≡ plate_samples rate) × (n < last_position) }
     ensures { gave (plate_on result.plate part.new) result.frame ≡ plate_step_on rate n (plate_on plate part.old) x }
 {
-    let k = rate.input.places;
-    let e = part.len();
-    let y = input(rate.input, &mut part[0..k], x, n);
-    let t = tank_step(rate, plate.tank, &mut part[k..e], y, stretch, n);
+    let (input_part, tank_part) = part.split_at_mut(rate.input.places);
+    let y = input(rate.input, input_part, x, n);
+    let t = tank_step(rate, plate.tank, tank_part, y, stretch, n);
     let left = plate.left.step(t.frame.left);
     let right = plate.right.step(t.frame.right);
     let tank = t.tank;
@@ -340,7 +312,7 @@ fn step(
 // At most eight samples: what is sent lies in left, and the two sides take its place and right's.
 fn group(
     rate: PlateRate,
-    plate: Plate,
+    mut plate: Plate,
     part: &mut [f64],
     left: &mut [f64],
     right: &mut [f64],
@@ -354,20 +326,11 @@ fn group(
     ensures right_after { right.new ≡ map (λ (f : Frame). f.right) (outs (plate_step_on rate) n (plate_on plate part.old) left.old) }
 {
     let stretches = lfo(rate, n, left.len());
-    let lefts = stretches.left;
-    let rights = stretches.right;
-    let mut plate = plate;
-    let mut i = 0;
-    while i < left.len() {
-        let stretch = Frame {
-            left: lefts[i],
-            right: rights[i],
-        };
-        let g = step(rate, plate, part, left[i], stretch, n + i as u64);
+    for i in 0..left.len() {
+        let g = step(rate, plate, part, left[i], stretches[i], n + i as u64);
         plate = g.plate;
         left[i] = g.frame.left;
         right[i] = g.frame.right;
-        i += 1;
     }
     plate
 }
@@ -375,7 +338,7 @@ fn group(
 // A block: what is sent lies in left, and the two sides take its place and right's.
 pub fn block(
     rate: PlateRate,
-    plate: Plate,
+    mut plate: Plate,
     part: &mut [f64],
     left: &mut [f64],
     right: &mut [f64],
@@ -387,19 +350,16 @@ pub fn block(
     ensures left_after { left.new ≡ map (λ (f : Frame). f.left) (outs (plate_step_on rate) n (plate_on plate part.old) left.old) }
     ensures right_after { right.new ≡ map (λ (f : Frame). f.right) (outs (plate_step_on rate) n (plate_on plate part.old) left.old) }
 {
-    let mut plate = plate;
-    let mut i = 0;
-    while i < left.len() {
-        let e = eight::group_end(i, left.len());
+    for i in (0..left.len()).step_by(8) {
+        let end = eight::group_end(i, left.len());
         plate = group(
             rate,
             plate,
             part,
-            &mut left[i..e],
-            &mut right[i..e],
+            &mut left[i..end],
+            &mut right[i..end],
             n + i as u64,
         );
-        i = e;
     }
     plate
 }
@@ -422,26 +382,21 @@ impl Plate {
     }
 
     // Whether its filters' pasts hold only zeros.
+    #[tactic(auto, unfolding(crate::specs::Plate::quiet_of))]
     fn quiet(self) -> bool
         ensures { result ≡ quiet_of self }
     {
-        if self.tank.left.at_rest() {
-            if self.tank.right.at_rest() {
-                if self.left.at_rest() {
-                    return self.right.at_rest();
-                }
-            }
-        }
-        false
+        self.tank.left.at_rest()
+            && self.tank.right.at_rest()
+            && self.left.at_rest()
+            && self.right.at_rest()
     }
 }
 
 // Whether every line and filter holds only zeros.
+#[tactic(auto, unfolding(crate::specs::Plate::at_rest_on))]
 pub fn at_rest(plate: Plate, part: &[f64]) -> bool
     ensures { result ≡ at_rest_on (plate_on plate part.now) }
 {
-    if delay::at_rest(part) {
-        return plate.quiet();
-    }
-    false
+    delay::at_rest(part) && plate.quiet()
 }

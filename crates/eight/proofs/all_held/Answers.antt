@@ -1,5 +1,6 @@
--- `eight::all_held` meets its contract. Assumes nothing.
+use Rattle.std.proofs.Common.{rules}
+use Rattle.eight.proofs.Lanes.{zipped_lanes}
 use Rattle.eight.proofs.all_held.Goals as goal
 
 pub returns : goal.returns
-returns c = rw (c.held.ensures, c.held-2.ensures, c.held-3.ensures, c.held-4.ensures, c.held-5.ensures, c.held-6.ensures, c.held-7.ensures, c.held-8.ensures)
+returns c = search (rules, zipped_lanes)

@@ -1,15 +1,11 @@
--- `eight::denominators` meets its contract. Assumes nothing.
-use mathlib.Core.Path.{sym, ◌∙◌}
-use Rattle.eight.proofs.Alike.{all_settled}
+use Rattle.eight.proofs.Alike.{of_squares, all_settled}
 use Rattle.eight.proofs.denominators.Goals as goal
 
-pub returns-then-all_same : goal.returns-then-all_same
-returns-then-all_same c =
-    let s = c.steps-n.ensures in
-    let z = c.products-z.ensures in
-    let t = c.convergents-t.ensures in
-    let b = sym c.all_same.ensures ∙ c.if-all_same.true in
-    rw (t, z) (all_settled _ s.0 s.1 _ (rw (t, c.convergents.ensures, z) at b))
+pub returns-then-t-convergents-eq255 : goal.returns-then-t-convergents-eq255
+returns-then-t-convergents-eq255 c =
+    let x = c.args.x in
+    let n = c.steps-n in
+    all_settled n.result n.ensures.0 n.ensures.1 x c.convergents-t.result c.convergents.result c.fits-x.0 (of_squares x _ _ c.convergents-t.ensures) (of_squares x _ _ c.convergents.ensures) c.if-t-convergents-eq255.true
 
 pub returns : goal.returns
-returns c = rw (c.convergents-2.ensures, c.products-z.ensures)
+returns c = of_squares c.args.x 40 _ c.convergents-2.ensures

@@ -1,5 +1,5 @@
--- `eight::saturate_eight` meets its contract. Assumes nothing.
+use Rattle.eight.proofs.Lanes.{saturated_lanes}
 use Rattle.eight.proofs.saturate_eight.Goals as goal
 
 pub returns : goal.returns
-returns c = rw (c.quotients.ensures, c.all_of-2.ensures, c.tanh_eight-y.ensures, c.products.ensures, c.all_of.ensures)
+returns c = saturated_lanes c.args.drive c.args.top c.args.x c.fits-x.0 c.tanh_eight.result c.tanh_eight.ensures

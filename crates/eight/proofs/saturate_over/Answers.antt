@@ -1,45 +1,24 @@
--- `eight::saturate_over` meets its contract. The loop's invariant: the first i are done.
--- Assumes nothing.
-use borrow.Author.Rules.{rules}
-use mathlib.Core.Path.{sym, ◌∙◌}
-use Prim.Native.Nat.{◌≤◌}
-use native.Mathlib.Omega.{arith}
-use lib.ListN.{length}
+use Rattle.std.proofs.Common.{◌≡◌, ◌+◌, length, arith, ap, ◌∙◌, min}
 use Rattle.eight.specs.Each.{saturated_over}
-use Rattle.eight.proofs.Groups.{map_to_zero, map_to_all, map_to_length, map_to_group, within}
+use Rattle.eight.proofs.Groups.{done_to, done_group, done_all}
+use Rattle.eight.proofs.Row.{group_end_min}
 use Rattle.eight.proofs.saturate_over.Goals as goal
-
-pub loop-i-init : goal.loop-i-init
-loop-i-init c = (search rules, sym (map_to_zero _ _))
-
-pub eight_at-x-requires : goal.eight_at-x-requires
-eight_at-x-requires c =
-    omega (arith, c.well_formed, within (saturated_over c.args.drive c.args.top) c.loop-i.i c.loop-i.s c.args.s.now c.loop-i.invariant.1 c.loop-i-test.true)
-
-pub put_eight-requires : goal.put_eight-requires
-put_eight-requires c =
-    omega (arith, c.well_formed, within (saturated_over c.args.drive c.args.top) c.loop-i.i c.loop-i.s c.args.s.now c.loop-i.invariant.1 c.loop-i-test.true)
-
-pub overflow_add-i : goal.overflow_add-i
-overflow_add-i c =
-    omega (arith, c.well_formed, within (saturated_over c.args.drive c.args.top) c.loop-i.i c.loop-i.s c.args.s.now c.loop-i.invariant.1 c.loop-i-test.true)
-
-pub loop-i-smaller : goal.loop-i-smaller
-loop-i-smaller c =
-    omega (arith, within (saturated_over c.args.drive c.args.top) c.loop-i.i c.loop-i.s c.args.s.now c.loop-i.invariant.1 c.loop-i-test.true)
 
 pub loop-i-preserved : goal.loop-i-preserved
 loop-i-preserved c =
-    let l = c.loop-i in (
-      omega (arith, within (saturated_over c.args.drive c.args.top) l.i l.s c.args.s.now l.invariant.1 c.loop-i-test.true),
-      rw (c.put_eight.ensures, c.saturate_eight-y.ensures, c.eight_at-x.ensures, l.invariant.1) (map_to_group _ l.i _),
-    )
-
-pub shape_of-s : goal.shape_of-s
-shape_of-s c = rw c.loop-i.invariant.1 (map_to_length _ c.loop-i.i _)
-
-pub returns : goal.returns
-returns c =
     let l = c.loop-i in
-    let h : length c.args.s.now ≤ l.i = simp (l.invariant.1, map_to_length) at c.loop-i-test.false in
-    l.invariant.1 ∙ map_to_all _ l.i _ h
+    let e = c.group_end-end in
+    let f = saturated_over c.args.drive c.args.top in
+    let h : e.result ≡ min (l.i + 8) (length l.s) = e.ensures.3 ∙ group_end_min l.i (length l.s) (omega (arith, e.ensures.0, e.ensures.1)) in
+    let full : e.result ≡ l.i + 8 = omega (arith, h, l.auto.s) in record {
+      within = omega (arith, full, e.ensures.1, l.auto.s);
+      done = done_group f c.args.s.now l.i e.result l.s c.saturate_group.new.s l.invariant.done (omega (arith, e.ensures.0)) (omega (arith, e.ensures.1, l.auto.s)) c.saturate_group.ensures ∙ ap (done_to f c.args.s.now) full;
+    }
+
+pub returns-2 : goal.returns-2
+returns-2 c =
+    let l = c.loop-i in
+    let e = c.group_end-end in
+    let f = saturated_over c.args.drive c.args.top in
+    let h : e.result ≡ min (l.i + 8) (length l.s) = e.ensures.3 ∙ group_end_min l.i (length l.s) (omega (arith, e.ensures.0, e.ensures.1)) in
+    done_group f c.args.s.now l.i e.result l.s c.saturate_group.new.s l.invariant.done (omega (arith, e.ensures.0)) (omega (arith, e.ensures.1, l.auto.s)) c.saturate_group.ensures ∙ done_all f c.args.s.now e.result (omega (arith, h, l.auto.s))

@@ -1,6 +1,5 @@
--- `eight::tanh_eight` meets its contract. Assumes nothing.
 use Rattle.eight.proofs.Alike.{tanh_each}
 use Rattle.eight.proofs.tanh_eight.Goals as goal
 
 pub returns : goal.returns
-returns c = rw (c.all_held.ensures, c.quotients.ensures, c.denominators.ensures) (tanh_each _)
+returns c = tanh_each c.args.x c.all_held.result c.denominators.result c.denominators.ensures c.all_held.ensures

@@ -1,5 +1,6 @@
-use Rattle.std.proofs.Common.{add-zero}
+use Rattle.std.proofs.Common.{rules}
+use Rattle.eight.proofs.Lanes.{same_lanes}
 use Rattle.oscillators.proofs.phases.Goals as goal
 
 pub returns : goal.returns
-returns c = rw (add-zero, c.phase.ensures, c.phase-2.ensures, c.phase-3.ensures, c.phase-4.ensures, c.phase-5.ensures, c.phase-6.ensures, c.phase-7.ensures, c.phase-8.ensures)
+returns c = search (rules, same_lanes)

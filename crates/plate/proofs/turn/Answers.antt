@@ -3,4 +3,4 @@ use Rattle.plate.proofs.turn.Goals as goal
 
 pub returns : goal.returns
 unfolding turn_of
-returns c = rw (c.nearest_u64_to_f64-2.ensures, c.whole_part.ensures, c.nearest_u64_to_f64.ensures)
+returns c = rw (c.nearest_u64_to_f64-2.ensures, c.whole_part.ensures, c.nearest_u64_to_f64.ensures, c.from.ensures)
