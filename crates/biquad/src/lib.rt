@@ -4,7 +4,7 @@
 
 ghost use Rattle.std.specs.Prelude.{◌≡◌};
 ghost use Rattle.biquad.specs.Section.{section_at, section_step, retuned, section_at_rest, lowpass_step, lowpass_at_rest};
-ghost use Rattle.biquad.specs.Cookbook.{normalized, angle_of, lpf, lowpass_retuned};
+ghost use Rattle.biquad.specs.Cookbook.{angle_of, lpf, lowpass_retuned};
 
 // The Butterworth Qs of order 4.
 const Q_FIRST: f64 = 1.306562964876377;
@@ -70,42 +70,23 @@ impl Section {
     }
 
     // Other coefficients, the past kept.
-    pub fn retuned(mut self, c: Coefficients) -> Section
+    pub fn retuned(self, c: Coefficients) -> Section
         ensures { result ≡ retuned self c }
     {
-        self.b0 = c.b0;
-        self.b1 = c.b1;
-        self.b2 = c.b2;
-        self.a1 = c.a1;
-        self.a2 = c.a2;
-        self
+        Section {
+            x1: self.x1,
+            x2: self.x2,
+            y1: self.y1,
+            y2: self.y2,
+            ..Section::new(c)
+        }
     }
 
     // Whether its past is all zeros.
     pub fn at_rest(self) -> bool
         ensures { result ≡ section_at_rest self }
     {
-        if self.x1 == 0.0 {
-            if self.x2 == 0.0 {
-                if self.y1 == 0.0 {
-                    return self.y2 == 0.0;
-                }
-            }
-        }
-        false
-    }
-}
-
-// The cookbook's b0, b1, b2, a0, a1, a2 over a0.
-fn cookbook(b0: f64, b1: f64, b2: f64, a0: f64, a1: f64, a2: f64) -> Coefficients
-    ensures { result ≡ normalized b0 b1 b2 a0 a1 a2 }
-{
-    Coefficients {
-        b0: b0 / a0,
-        b1: b1 / a0,
-        b2: b2 / a0,
-        a1: a1 / a0,
-        a2: a2 / a0,
+        self.x1 == 0.0 && self.x2 == 0.0 && self.y1 == 0.0 && self.y2 == 0.0
     }
 }
 
@@ -114,15 +95,22 @@ fn cookbook_lowpass(sin: f64, cos: f64, q: f64) -> Coefficients
     ensures { result ≡ lpf sin cos q }
 {
     let alpha = sin / (2.0 * q);
-    let b0 = (1.0 - cos) / 2.0;
-    cookbook(b0, 1.0 - cos, b0, 1.0 + alpha, -2.0 * cos, 1.0 - alpha)
+    let a0 = 1.0 + alpha;
+    let b0 = (1.0 - cos) / 2.0 / a0;
+    Coefficients {
+        b0,
+        b1: (1.0 - cos) / a0,
+        b2: b0,
+        a1: -2.0 * cos / a0,
+        a2: (1.0 - alpha) / a0,
+    }
 }
 
 // w0 of a corner: its angle a sample.
 fn angle(hz: f32, rate: u32) -> f64
     ensures { result ≡ angle_of hz rate }
 {
-    elementary::TAU * casts::widen(hz) / (rate as f64)
+    elementary::TAU * casts::widen(hz) / f64::from(rate)
 }
 
 // An order-4 Butterworth low-pass, whose corner may move.
@@ -158,9 +146,6 @@ impl Lowpass {
     pub fn at_rest(self) -> bool
         ensures { result ≡ lowpass_at_rest self }
     {
-        if self.first.at_rest() {
-            return self.second.at_rest();
-        }
-        false
+        self.first.at_rest() && self.second.at_rest()
     }
 }
