@@ -1,15 +1,17 @@
 -- The loops over the kicks: what one more kick does, and where a loop ends. Assumes nothing.
 use mathlib.Core.Path.{◌≡◌, refl, sym, ap, ◌∙◌}
+use mathlib.Core.Logic.{◌⊎◌, inl, inr}
 use mathlib.Core.Bool.{Bool, true, false, cond, ◌&&◌, and-eq-true_iff}
 use Prim.Native.Nat.{ℕ, zero, suc, ◌+◌, ◌-◌, ◌<◌, ◌≤◌}
 use native.Mathlib.Omega.{arith}
-use native.Mathlib.Nat.{zero-add, suc-add}
 use native.Mathlib.Numerals.{add-one}
-use native.Mathlib.Decide.{dec_lt}
-use mathlib.Core.List.{List, [], ◌∷◌, ◌++◌, append_assoc}
+use mathlib.Core.List.{List, [], ◌∷◌, ◌++◌, map, append_assoc}
 use lib.Dec.{leb}
-use lib.ListN.{length, take, drop, get_or, set, replicate, length-append, length-set, length-map, length-drop, length-replicate, replicate-append-replicate, drop_of_length-le, get_or-map}
-use lib.Seq.{drop-cons, get_or-take, get_or-drop, length-take-le, take-suc, take-length, take-append_seam, append_snoc, set_at, set-append_left}
+use lib.ListN.{length, take, drop, get_or, set, replicate, length-append, length-set, length-map, length-drop, length-replicate, drop_of_length-le, get_or-map}
+use lib.Seq.{drop-cons, drop-drop, get_or-take, get_or-drop, length-take-le, take-append_seam, take-append-add, drop-append-add}
+use Rattle.std.proofs.lemmas.List.{drop-take, drop-map}
+use borrow.Rule.Slice.PartMut.{mid_of, put_mid, mid_len}
+use mir.Val.{bool_byte}
 use lib.Ieee.{Float}
 use borrow.Author.Tests.{leb-true, le-leb, lt-leb}
 use Rattle.casts.specs.Arithmetic.{one}
@@ -17,60 +19,35 @@ use Rattle.stage.specs.Stage.{Step}
 use Rattle.sidechain.specs.declared.DuckRate.{DuckRate}
 use Rattle.sidechain.specs.Sidechain.{span, releases}
 use Rattle.ranges.specs.Ranges.{most_kicks}
-use Rattle.duck.specs.Cursors.{DuckIn, duck_on, laid, is_mark, flag, kicks_in, marks_in, Reached, reached_at, reach, released, times_gain, times_until, gave, gain_on, Within, duck_counts}
+use Rattle.duck.specs.Cursors.{DuckIn, duck_on, kicks_laid, laid, is_mark, flag, kicks_in, marks_in, Reached, reached_at, reach, released, times_gain, times_until, gave, gain_on, Within, duck_counts}
 
--- ---- the kicks laid and unmarked, one after the other
-
-put_turn : (ks u : List ℕ) (j : ℕ) → j < length ks → j < length u → set (take j ks ++ drop j u) j (get_or ks j 0) ≡ take (j + 1) ks ++ drop (j + 1) u
-put_turn ks u j h k =
-    ap (λ (l : List ℕ). set (take j ks ++ l) j (get_or ks j 0)) (drop-cons u j 0 k)
-    ∙ set_at (take j ks) (get_or u j 0) (drop (suc j) u) (get_or ks j 0) j (length-take-le j ks (omega arith))
-    ∙ rw (add-one j, take-suc ks j 0 h, append_snoc)
-
-clear_turn : (u : List ℕ) (j : ℕ) → j < length u → set (replicate j 0 ++ drop j u) j 0 ≡ replicate (j + 1) 0 ++ drop (j + 1) u
-clear_turn u j k =
-    ap (λ (l : List ℕ). set (replicate j 0 ++ l) j 0) (drop-cons u j 0 k)
-    ∙ set_at (replicate j 0) (get_or u j 0) (drop (suc j) u) 0 j (length-replicate {A = ℕ} j 0)
-    ∙ rw (← replicate-append-replicate {A = ℕ} j 1 0, append_snoc, add-one j)
-
-set_behind : (xs ys : List ℕ) (i n v : ℕ) → length xs ≡ n → set (xs ++ ys) (n + i) v ≡ xs ++ set ys i v
-set_behind xs ys i n v e = rw (← e) (go xs)
-  where
-    go : (xs : List ℕ) → set (xs ++ ys) (length xs + i) v ≡ xs ++ set ys i v
-    go [] = rw (zero-add i)
-    go (x ∷ xs) = rw (suc-add (length xs) i) (ap (λ (l : List ℕ). x ∷ l) (go xs))
-
--- the first j of them
-abbrev pub laid_up_to : ℕ → List ℕ → List ℕ → List ℕ
-laid_up_to j ks u = (take j ks ++ drop j (take most_kicks u)) ++ (replicate j 0 ++ drop j (drop most_kicks u))
+-- ---- the kicks laid and unmarked
 
 module _ (ks u : List ℕ) (few : length ks ≤ most_kicks) (wide : duck_counts ≤ length u) where
-  front_length : (j : ℕ) → j ≤ length ks → length (take j ks ++ drop j (take most_kicks u)) ≡ most_kicks
-  front_length j h =
-      let a = length-take-le j ks h in
+  front_length : length (ks ++ drop (length ks) (take most_kicks u)) ≡ most_kicks
+  front_length =
       let b = length-take-le most_kicks u (omega arith) in
-      let c = length-drop j (take most_kicks u) in
-      length-append (take j ks) (drop j (take most_kicks u)) ∙ omega arith
+      let c = length-drop (length ks) (take most_kicks u) in
+      length-append ks (drop (length ks) (take most_kicks u)) ∙ omega arith
 
-  pub laid_turn : (j : ℕ) → j < length ks → set (set (laid_up_to j ks u) j (get_or ks j 0)) (most_kicks + j) 0 ≡ laid_up_to (j + 1) ks u
-  laid_turn j h =
-      let front = take j ks ++ drop j (take most_kicks u) in
-      let next = take (j + 1) ks ++ drop (j + 1) (take most_kicks u) in
-      let marks = replicate j 0 ++ drop j (drop most_kicks u) in
-      let a = front_length j (omega arith) in
-      let b = length-take-le most_kicks u (omega arith) in
-      let c = length-drop most_kicks u in
-      ap (λ (l : List ℕ). set l (most_kicks + j) 0) (set-append_left front marks j (get_or ks j 0) (omega arith) ∙ ap (λ (l : List ℕ). l ++ marks) (put_turn ks (take most_kicks u) j h (omega arith)))
-      ∙ set_behind next marks j most_kicks 0 (front_length (j + 1) (omega arith))
-      ∙ ap (λ (l : List ℕ). next ++ l) (clear_turn (drop most_kicks u) j (omega arith))
-
-  pub laid_done : (j : ℕ) → j ≤ length ks → length ks ≤ j → duck_on (record { count = j; reached = 0; ducking = 0 }) (laid_up_to j ks u) ≡ laid ks u
-  laid_done j h k = let e : j ≡ length ks = omega arith in rw (e, take-length ks)
+  -- the kicks copied to the front, and as many places of the marks filled with zeros
+  pub laid_is : (front marks : List ℕ) → front ≡ ks → marks ≡ replicate (length (mid_of most_kicks (most_kicks + length ks - most_kicks) (front ++ drop (length ks) u))) 0
+      → put_mid most_kicks (most_kicks + length ks - most_kicks) (front ++ drop (length ks) u) marks ≡ kicks_laid ks u
+  laid_is front marks e f =
+      let some : most_kicks + length ks - most_kicks ≡ length ks = omega arith in
+      let all : length ks + (most_kicks - length ks) ≡ most_kicks = omega arith in
+      let long : most_kicks + length ks ≤ length (ks ++ drop (length ks) u) = rw (length-append ks (drop (length ks) u), length-drop (length ks) u) (omega arith) in
+      let first : take most_kicks (ks ++ drop (length ks) u) ≡ ks ++ drop (length ks) (take most_kicks u) =
+      rw all at (take-append-add ks (drop (length ks) u) (most_kicks - length ks) ∙ ap (λ (l : List ℕ). ks ++ l) (sym (drop-take (length ks) (most_kicks - length ks) u))) in
+      let last : drop most_kicks (ks ++ drop (length ks) u) ≡ drop most_kicks u =
+      rw all at (drop-append-add ks (drop (length ks) u) (most_kicks - length ks) ∙ drop-drop (most_kicks - length ks) (length ks) u) in
+      let zeros : length (mid_of most_kicks (most_kicks + length ks - most_kicks) (ks ++ drop (length ks) u)) ≡ length ks = mid_len most_kicks (most_kicks + length ks) _ long ∙ some in
+      rw (f, e, zeros, some, first, last)
 
   pub laid_length : length (laid ks u).part ≡ length u
   laid_length =
       let front = ks ++ drop (length ks) (take most_kicks u) in
-      let a : length front ≡ most_kicks = rw (take-length ks) at (front_length (length ks) (omega arith)) in
+      let a = front_length in
       let b = length-replicate {A = ℕ} (length ks) 0 in
       let c = length-drop (length ks) (drop most_kicks u) in
       let d = length-drop most_kicks u in
@@ -80,14 +57,7 @@ module _ (ks u : List ℕ) (few : length ks ≤ most_kicks) (wide : duck_counts 
   pub laid_kicks : kicks_in (length ks) (laid ks u).part ≡ ks
   laid_kicks = rw (append_assoc ks) (take-append_seam ks _)
 
--- ---- the tests of a kick, with no sum that could wrap
-
-module _ (r : DuckRate) (k n : ℕ) where
-  pub released_test : k ≤ n → r.attack ≤ n - k → leb r.release (n - k - r.attack) ≡ leb (k + span r) n
-  released_test h a = elim (dec_lt n (k + span r)) [
-    | yes i ↦ lt-leb r.release (n - k - r.attack) (omega arith) ∙ sym (lt-leb (k + span r) n i)
-    | no i ↦ le-leb r.release (n - k - r.attack) (omega arith) ∙ sym (le-leb (k + span r) n (omega arith))
-  ]
+-- ---- the tests of a kick
 
 -- a kick whose attack is over
 pub attacked_says : (attack kick n : ℕ) → leb kick n && leb attack (n - kick) ≡ true → (kick ≤ n) × (attack ≤ n - kick)
@@ -101,6 +71,10 @@ sounds_says r mark kick n e =
     (a.0, leb-true kick n b.0, b.1)
 
 -- ---- marking
+
+pub flag_is : (d : Bool) → bool_byte d ≡ flag d
+flag_is true = refl
+flag_is false = refl
 
 module _ (count : ℕ) (u : List ℕ) (c n : ℕ) (d : Bool) where
   pub reach_more : c < count → get_or u c 0 ≤ n → reach (count - (c + 1)) (c + 1) n d (set u (most_kicks + c) (flag d)) ≡ reach (count - c) c n d u
@@ -150,32 +124,49 @@ module _ (count : ℕ) (u : List ℕ) (few : count ≤ most_kicks) (wide : duck_
     unfolding released
     released_done h = rw (kicks_over c h) (omega arith)
 
-    -- the product
-    pub times_more : (g : Float) → c < count → get_or u c 0 ≤ n
-        → times_until r n (times_gain r g (n - get_or u c 0) (is_mark (get_or u (most_kicks + c) 0))) (drop (c + 1) (kicks_in count u)) (drop (c + 1) (marks_in count u))
-        ≡ times_until r n g (drop c (kicks_in count u)) (drop c (marks_in count u))
-    unfolding times_until
-    times_more g h e = rw (kicks_cons c h, marks_cons c h, le-leb (get_or u c 0) n e)
+-- ---- the product, of kicks and their marks
 
-    pub times_stop : (g : Float) → c < count → n < get_or u c 0 → g ≡ times_until r n g (drop c (kicks_in count u)) (drop c (marks_in count u))
-    unfolding times_until
-    times_stop g h e = rw (kicks_cons c h, marks_cons c h, lt-leb (get_or u c 0) n e)
+module _ (r : DuckRate) (n : ℕ) (g : Float) where
+  pub times_step : (k m : ℕ) (ks ms : List ℕ) → k ≤ n → times_until r n (times_gain r g (n - k) (is_mark m)) ks (map is_mark ms) ≡ times_until r n g (k ∷ ks) (map is_mark (m ∷ ms))
+  unfolding times_until
+  times_step k m ks ms e = rw (le-leb k n e)
 
-    pub times_done : (g : Float) → count ≤ c → g ≡ times_until r n g (drop c (kicks_in count u)) (drop c (marks_in count u))
-    unfolding times_until
-    times_done g h = rw (kicks_over c h)
+  pub times_halt : (k : ℕ) (ks ms : List ℕ) → n < k → g ≡ times_until r n g (k ∷ ks) (map is_mark ms)
+  unfolding times_until
+  times_halt k ks [] e = refl
+  times_halt k ks (m ∷ ms) e = rw (lt-leb k n e)
 
-  -- two marked kicks of the product
-  pub times_two_more : (r : DuckRate) (n c : ℕ) (g : Float) → c + 1 < count → get_or u c 0 ≤ n → get_or u (c + 1) 0 ≤ n
-      → is_mark (get_or u (most_kicks + c) 0) ≡ true → is_mark (get_or u (most_kicks + c + 1) 0) ≡ true
-      → times_until r n (times_gain r (times_gain r g (n - get_or u c 0) true) (n - get_or u (c + 1) 0) true) (drop (c + 2) (kicks_in count u)) (drop (c + 2) (marks_in count u))
-      ≡ times_until r n g (drop c (kicks_in count u)) (drop c (marks_in count u))
-  times_two_more r n c g h e f marked marked' =
-      let mark : most_kicks + c + 1 ≡ most_kicks + (c + 1) = omega arith in
-      let next : c + 2 ≡ c + 1 + 1 = omega arith in
-      let first = rw marked at (times_more r n c g (omega arith) e) in
-      let second = rw (sym mark, marked') at (times_more r n (c + 1) (times_gain r g (n - get_or u c 0) true) h f) in
-      rw next (second ∙ first)
+  pub times_none : (ks ms : List ℕ) → (ks ≡ []) ⊎ (ms ≡ []) → g ≡ times_until r n g ks (map is_mark ms)
+  unfolding times_until
+  times_none [] ms e = refl
+  times_none (k ∷ ks) [] e = refl
+  times_none (k ∷ ks) (m ∷ ms) (inl e) = absurd (cc)
+  times_none (k ∷ ks) (m ∷ ms) (inr e) = absurd (cc)
+
+module _ (ks ms : List ℕ) (same : length ks ≡ length ms) (r : DuckRate) (n c : ℕ) where
+  pub times_more : (g : Float) → c < length ks → get_or ks c 0 ≤ n
+      → times_until r n (times_gain r g (n - get_or ks c 0) (is_mark (get_or ms c 0))) (drop (c + 1) ks) (drop (c + 1) (map is_mark ms))
+      ≡ times_until r n g (drop c ks) (drop c (map is_mark ms))
+  times_more g h e = rw (drop-map is_mark (c + 1) ms, drop-map is_mark c ms, drop-cons ks c 0 h, drop-cons ms c 0 (rw same at h), add-one c) (times_step r n g (get_or ks c 0) (get_or ms c 0) (drop (suc c) ks) (drop (suc c) ms) e)
+
+module _ (ks ms : List ℕ) (r : DuckRate) (n c : ℕ) (g : Float) where
+  pub times_stop : c < length ks → n < get_or ks c 0 → g ≡ times_until r n g (drop c ks) (drop c (map is_mark ms))
+  times_stop h e = rw (drop-map is_mark c ms, drop-cons ks c 0 h) (times_halt r n g (get_or ks c 0) (drop (suc c) ks) (drop c ms) e)
+
+  pub times_done : length ks ≤ c → g ≡ times_until r n g (drop c ks) (drop c (map is_mark ms))
+  unfolding times_until
+  times_done h = rw (drop_of_length-le ks h)
+
+-- two marked kicks of the product
+pub times_two_more : (ks ms : List ℕ) → length ks ≡ length ms → (r : DuckRate) (n c : ℕ) (g : Float) → c + 1 < length ks → get_or ks c 0 ≤ n → get_or ks (c + 1) 0 ≤ n
+    → is_mark (get_or ms c 0) ≡ true → is_mark (get_or ms (c + 1) 0) ≡ true
+    → times_until r n (times_gain r (times_gain r g (n - get_or ks c 0) true) (n - get_or ks (c + 1) 0) true) (drop (c + 2) ks) (drop (c + 2) (map is_mark ms))
+    ≡ times_until r n g (drop c ks) (drop c (map is_mark ms))
+times_two_more ks ms same r n c g h e f marked marked' =
+    let next : c + 2 ≡ c + 1 + 1 = omega arith in
+    let first = rw marked at (times_more ks ms same r n c g (omega arith) e) in
+    let second = rw marked' at (times_more ks ms same r n (c + 1) (times_gain r g (n - get_or ks c 0) true) h f) in
+    rw next (second ∙ first)
 
 -- ---- a sample keeps the cursors within their list
 

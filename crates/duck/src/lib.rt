@@ -2,17 +2,17 @@
 // positions and then 1,024 marks. Uses casts, ranges, stage and sidechain, and no rate by its number.
 #![tactic(auto)]
 
-ghost use Rattle.std.specs.Prelude.{◌≡◌, ◌+◌, ◌-◌, ◌<◌, ◌≤◌, leb, length, drop, true, ◌&&◌};
+ghost use Rattle.std.specs.Prelude.{◌≡◌, ◌+◌, ◌-◌, ◌<◌, ◌≤◌, leb, length, drop, map, true, ◌&&◌};
 ghost use Rattle.casts.specs.Arithmetic.{one};
 ghost use Rattle.stage.specs.Stage.{ran, outs};
 ghost use Rattle.sidechain.specs.Sidechain.{span, releases};
 ghost use Rattle.ranges.specs.Ranges.{last_position, most_kicks};
-ghost use Rattle.duck.specs.Cursors.{duck_on, laid, flag, is_mark, kicks_in, marks_in, reach, reached_at, released, times_gain, times_until, gave, gain_on, duck_step_on, Within, duck_formed, duck_counts};
+ghost use Rattle.duck.specs.Cursors.{duck_on, laid, is_mark, kicks_in, marks_in, reach, reached_at, released, times_gain, times_until, gave, gain_on, duck_step_on, Within, duck_formed, duck_counts};
 
 use sidechain::{DuckRate, Gains};
 
 // The kicks in use, the first that the lane has not reached, and the first whose duck still releases.
-#[derive(Clone, Copy)]
+#[derive(Clone, Copy, PartialEq, Eq)]
 pub struct Duck {
     pub count: usize,
     pub reached: usize,
@@ -49,14 +49,11 @@ impl Duck {
         requires { (length kicks.now ≤ most_kicks) × (duck_counts ≤ length counts.old) }
         ensures { duck_on result counts.new ≡ laid kicks.now counts.old }
     {
-        let mut i: usize = 0;
-        while i < kicks.len() {
-            counts[i] = kicks[i];
-            counts[ranges::MOST_KICKS + i] = 0;
-            i += 1;
-        }
+        let count = kicks.len();
+        counts[..count].copy_from_slice(kicks);
+        counts[ranges::MOST_KICKS..ranges::MOST_KICKS + count].fill(0);
         Self {
-            count: i,
+            count,
             reached: 0,
             ducking: 0,
         }
@@ -68,17 +65,10 @@ pub fn formed(duck: Duck, counts: &[u64]) -> bool
     requires { duck_counts ≤ length counts.now }
     ensures { result ≡ duck_formed (duck_on duck counts.now) }
 {
-    let count = duck.count;
-    if ranges::MOST_KICKS < count {
-        return false;
-    }
-    if count < duck.reached {
-        return false;
-    }
-    if count < duck.ducking {
-        return false;
-    }
-    ranges::rising(&counts[..count])
+    duck.count <= ranges::MOST_KICKS
+        && duck.reached <= duck.count
+        && duck.ducking <= duck.count
+        && ranges::rising(&counts[..duck.count])
 }
 
 // ---- one kick
@@ -87,37 +77,21 @@ pub fn formed(duck: Duck, counts: &[u64]) -> bool
 fn has_released(rate: DuckRate, kick: u64, n: u64) -> bool
     ensures { result ≡ leb (kick + span rate) n }
 {
-    if n < kick {
-        return false;
-    }
-    let since = n - kick;
-    if since < rate.attack {
-        return false;
-    }
-    rate.release <= since - rate.attack
+    kick <= n && rate.attack <= n - kick && rate.release <= n - kick - rate.attack
 }
 
 // Whether a kick's attack is over at n.
 fn has_attacked(rate: DuckRate, kick: u64, n: u64) -> bool
     ensures { result ≡ (leb kick n && leb rate.attack (n - kick)) }
 {
-    if n < kick {
-        return false;
-    }
-    rate.attack <= n - kick
+    kick <= n && rate.attack <= n - kick
 }
 
 // Whether a kick is marked and releases at n.
 fn sounds(rate: DuckRate, kick: u64, mark: u64, n: u64) -> bool
     ensures { result ≡ (is_mark mark && (leb kick n && releases rate (n - kick))) }
 {
-    if mark == 0 {
-        return false;
-    }
-    if n < kick {
-        return false;
-    }
-    sidechain::releases(rate, n - kick)
+    mark != 0 && kick <= n && sidechain::releases(rate, n - kick)
 }
 
 // One kick more in the product.
@@ -125,9 +99,10 @@ fn times_gain(rate: DuckRate, gain: f64, since: u64, mark: u64) -> f64
     ensures { result ≡ times_gain rate gain since (is_mark mark) }
 {
     if mark == 0 {
-        return gain;
+        gain
+    } else {
+        gain * sidechain::sidechain_gain(rate, since)
     }
-    gain * sidechain::sidechain_gain(rate, since)
 }
 
 // Two kicks more in the product, both marked and releasing: their gains do not wait for each other.
@@ -155,136 +130,134 @@ fn times_gains(rate: DuckRate, gains: Gains, since: u64, mark: u64) -> Gains
     }
 }
 
-fn flag_of(drums: bool) -> u64
-    ensures { result ≡ flag drums }
-{
-    if drums { 1 } else { 0 }
-}
-
-// ---- the loops of a sample
+// ---- the cursors
 
 // Marks the kicks up to n, from the first that the lane has not reached.
-fn mark(counts: &mut [u64], count: usize, reached: usize, n: u64, drums: bool) -> usize
-    requires { (duck_counts ≤ length counts.old) × (count ≤ most_kicks) × (reached ≤ count) }
-    ensures { reached_at result counts.new ≡ reach (count - reached) reached n drums counts.old }
+fn mark(duck: Duck, counts: &mut [u64], n: u64, drums: bool) -> usize
+    requires { Within (duck_on duck counts.old) }
+    ensures { reached_at result counts.new ≡ reach (duck.count - duck.reached) duck.reached n drums counts.old }
 {
-    let sounded = flag_of(drums);
-    let mut next = reached;
-    while next < count {
+    for next in duck.reached..duck.count {
         if n < counts[next] {
             return next;
         }
-        counts[ranges::MOST_KICKS + next] = sounded;
-        next += 1;
+        counts[ranges::MOST_KICKS + next] = u64::from(drums);
     }
-    next
+    duck.count
 }
 
 // The first kick whose duck still releases at n.
-fn advance(rate: DuckRate, counts: &[u64], count: usize, ducking: usize, n: u64) -> usize
-    requires { (duck_counts ≤ length counts.now) × (count ≤ most_kicks) × (ducking ≤ count) }
-    ensures { result ≡ ducking + released rate n (drop ducking (kicks_in count counts.now)) }
+fn advance(rate: DuckRate, duck: Duck, counts: &[u64], n: u64) -> usize
+    requires { Within (duck_on duck counts.now) }
+    ensures { result ≡ duck.ducking + released rate n (drop duck.ducking (kicks_in duck.count counts.now)) }
 {
-    let mut first = ducking;
-    while first < count {
+    for first in duck.ducking..duck.count {
         if !has_released(rate, counts[first], n) {
             return first;
         }
-        first += 1;
     }
-    first
+    duck.count
 }
 
-// gain, times the gains from a kick on.
-fn product_from(rate: DuckRate, counts: &[u64], count: usize, from: usize, n: u64, gain: f64) -> f64
-    requires { (duck_counts ≤ length counts.now) × (count ≤ most_kicks) × (from ≤ count) }
-    ensures { result ≡ times_until rate n gain (drop from (kicks_in count counts.now)) (drop from (marks_in count counts.now)) }
-{
-    let mut gain = gain;
-    let mut c = from;
-    while c < count {
-        let kick = counts[c];
-        if n < kick {
-            return gain;
+// ---- the products
+
+// The kicks in use, and beside each its mark.
+#[derive(Clone, Copy)]
+struct Kicks<'a> {
+    positions: &'a [u64],
+    marks: &'a [u64],
+    ghost one_mark_each: { length positions.now ≡ length marks.now },
+}
+
+impl<'a> Kicks<'a> {
+    fn of(duck: Duck, counts: &'a [u64]) -> Self
+        requires { Within (duck_on duck counts.now) }
+        ensures positions { result.positions.now ≡ kicks_in duck.count counts.now }
+        ensures marks { map is_mark result.marks.now ≡ marks_in duck.count counts.now }
+    {
+        Self {
+            positions: &counts[..duck.count],
+            marks: &counts[ranges::MOST_KICKS..ranges::MOST_KICKS + duck.count],
         }
-        gain = times_gain(rate, gain, n - kick, counts[ranges::MOST_KICKS + c]);
-        c += 1;
     }
-    gain
-}
 
-// The same. Where the next kick is yet to come, as for most samples, the loop and what it prepares are spared.
-fn product(rate: DuckRate, counts: &[u64], count: usize, from: usize, n: u64, gain: f64) -> f64
-    requires { (duck_counts ≤ length counts.now) × (count ≤ most_kicks) × (from ≤ count) }
-    ensures { result ≡ times_until rate n gain (drop from (kicks_in count counts.now)) (drop from (marks_in count counts.now)) }
-{
-    if count <= from {
-        return gain;
-    }
-    if n < counts[from] {
-        return gain;
-    }
-    product_from(rate, counts, count, from, n, gain)
-}
-
-// The gains from a kick on, two by two while two sound.
-fn product_by_two(rate: DuckRate, counts: &[u64], count: usize, from: usize, n: u64) -> f64
-    requires { (duck_counts ≤ length counts.now) × (count ≤ most_kicks) × (from ≤ count) }
-    ensures { result ≡ times_until rate n one (drop from (kicks_in count counts.now)) (drop from (marks_in count counts.now)) }
-{
-    let mut gain: f64 = 1.0;
-    let mut c = from;
-    while c + 1 < count {
-        let first = counts[c];
-        let second = counts[c + 1];
-        if !sounds(rate, first, counts[ranges::MOST_KICKS + c], n) {
-            break;
+    // gain, times the gains of those from one on. Not inlined, so that `product` is.
+    #[inline(never)]
+    fn product_from(self, from: usize, rate: DuckRate, n: u64, gain: f64) -> f64
+        requires { from ≤ length self.positions.now }
+        ensures { result ≡ times_until rate n gain (drop from self.entry.positions.now) (drop from (map is_mark self.entry.marks.now)) }
+    {
+        let mut product = gain;
+        for (kick, mark) in self.positions[from..].iter().zip(&self.marks[from..]) {
+            if n < *kick {
+                break;
+            }
+            product = times_gain(rate, product, n - *kick, *mark);
         }
-        if !sounds(rate, second, counts[ranges::MOST_KICKS + c + 1], n) {
-            break;
-        }
-        gain = times_two(rate, gain, n - first, n - second);
-        c += 2;
+        product
     }
-    product(rate, counts, count, c, n, gain)
-}
 
-// The products at n and at n + 1 over the kicks up to the first whose attack is not over, side by side: a product's multiplications wait for
-// each other, those of two do not.
-fn past_attacks(rate: DuckRate, counts: &[u64], count: usize, from: usize, n: u64) -> PastAttacks
-    requires { (duck_counts ≤ length counts.now) × (count ≤ most_kicks) × (from ≤ count) × (n + 1 < last_position) }
-    ensures next_le_count { result.next ≤ count }
-    ensures times_at { times_until rate n result.gains.at (drop result.next (kicks_in count counts.now)) (drop result.next (marks_in count counts.now)) ≡ times_until rate n one (drop from (kicks_in count counts.now)) (drop from (marks_in count counts.now)) }
-    ensures times_after { times_until rate (n + 1) result.gains.after (drop result.next (kicks_in count counts.now)) (drop result.next (marks_in count counts.now)) ≡ times_until rate (n + 1) one (drop from (kicks_in count counts.now)) (drop from (marks_in count counts.now)) }
-{
-    let mut gains = Gains {
-        at: 1.0,
-        after: 1.0,
-    };
-    let mut c = from;
-    while c < count {
-        let kick = counts[c];
-        if !has_attacked(rate, kick, n) {
-            break;
+    // The same. Where the next kick is yet to come, as for most samples, the loop and what it prepares are spared.
+    fn product(self, from: usize, rate: DuckRate, n: u64, gain: f64) -> f64
+        ensures { result ≡ times_until rate n gain (drop from self.entry.positions.now) (drop from (map is_mark self.entry.marks.now)) }
+    {
+        if from < self.positions.len() && self.positions[from] <= n {
+            self.product_from(from, rate, n, gain)
+        } else {
+            gain
         }
-        gains = times_gains(rate, gains, n - kick, counts[ranges::MOST_KICKS + c]);
-        c += 1;
     }
-    PastAttacks { gains, next: c }
-}
 
-// The products at n and at n + 1. From the first kick whose attack is not over each goes on by itself, so that the attack's table is read in
-// one place.
-fn products(rate: DuckRate, counts: &[u64], count: usize, from: usize, n: u64) -> Gains
-    requires { (duck_counts ≤ length counts.now) × (count ≤ most_kicks) × (from ≤ count) × (n + 1 < last_position) }
-    ensures at_value { result.at ≡ times_until rate n one (drop from (kicks_in count counts.now)) (drop from (marks_in count counts.now)) }
-    ensures after_value { result.after ≡ times_until rate (n + 1) one (drop from (kicks_in count counts.now)) (drop from (marks_in count counts.now)) }
-{
-    let past = past_attacks(rate, counts, count, from, n);
-    let next = past.next;
-    Gains {
-        at: product(rate, counts, count, next, n, past.gains.at),
-        after: product(rate, counts, count, next, n + 1, past.gains.after),
+    // The gains of those from one on, two by two while two sound.
+    fn product_by_two(self, from: usize, rate: DuckRate, n: u64) -> f64
+        requires { from ≤ length self.positions.now }
+        ensures { result ≡ times_until rate n one (drop from self.entry.positions.now) (drop from (map is_mark self.entry.marks.now)) }
+    {
+        let mut gain = 1.0;
+        let mut c = from;
+        while c + 1 < self.positions.len()
+            && sounds(rate, self.positions[c], self.marks[c], n)
+            && sounds(rate, self.positions[c + 1], self.marks[c + 1], n)
+        {
+            gain = times_two(rate, gain, n - self.positions[c], n - self.positions[c + 1]);
+            c += 2;
+        }
+        self.product(c, rate, n, gain)
+    }
+
+    // The products at n and at n + 1 over those from one on up to the first whose attack is not over, side by side: a product's
+    // multiplications wait for each other, those of two do not.
+    fn past_attacks(self, from: usize, rate: DuckRate, n: u64) -> PastAttacks
+        requires from_within { from ≤ length self.positions.now }
+        requires n_bound { n + 1 < last_position }
+        ensures times_at { times_until rate n result.gains.at (drop result.next self.entry.positions.now) (drop result.next (map is_mark self.entry.marks.now)) ≡ times_until rate n one (drop from self.entry.positions.now) (drop from (map is_mark self.entry.marks.now)) }
+        ensures times_after { times_until rate (n + 1) result.gains.after (drop result.next self.entry.positions.now) (drop result.next (map is_mark self.entry.marks.now)) ≡ times_until rate (n + 1) one (drop from self.entry.positions.now) (drop from (map is_mark self.entry.marks.now)) }
+    {
+        let mut gains = Gains {
+            at: 1.0,
+            after: 1.0,
+        };
+        let mut next = from;
+        while next < self.positions.len() && has_attacked(rate, self.positions[next], n) {
+            gains = times_gains(rate, gains, n - self.positions[next], self.marks[next]);
+            next += 1;
+        }
+        PastAttacks { gains, next }
+    }
+
+    // The products at n and at n + 1 over those from one on. From the first whose attack is not over each goes on by itself, so that the
+    // attack's table is read in one place.
+    fn products(self, from: usize, rate: DuckRate, n: u64) -> Gains
+        requires from_within { from ≤ length self.positions.now }
+        requires n_bound { n + 1 < last_position }
+        ensures at_value { result.at ≡ times_until rate n one (drop from self.entry.positions.now) (drop from (map is_mark self.entry.marks.now)) }
+        ensures after_value { result.after ≡ times_until rate (n + 1) one (drop from self.entry.positions.now) (drop from (map is_mark self.entry.marks.now)) }
+    {
+        let past = self.past_attacks(from, rate, n);
+        Gains {
+            at: self.product(past.next, rate, n, past.gains.at),
+            after: self.product(past.next, rate, n + 1, past.gains.after),
+        }
     }
 }
 
@@ -296,11 +269,10 @@ fn moved(rate: DuckRate, duck: Duck, counts: &mut [u64], n: u64, drums: bool) ->
     ensures duck_after { duck_on result counts.new ≡ (gain_on rate drums n (duck_on duck counts.old)).next }
     ensures within { Within (duck_on result counts.new) }
 {
-    let count = duck.count;
-    let reached = mark(counts, count, duck.reached, n, drums);
-    let ducking = advance(rate, counts, count, duck.ducking, n);
+    let reached = mark(duck, counts, n, drums);
+    let ducking = advance(rate, duck, counts, n);
     Duck {
-        count,
+        count: duck.count,
         reached,
         ducking,
     }
@@ -311,7 +283,7 @@ pub fn duck_step(rate: DuckRate, duck: Duck, counts: &mut [u64], n: u64, drums: 
     ensures { gave result.duck counts.new result.gain ≡ gain_on rate drums n (duck_on duck counts.old) }
 {
     let duck = moved(rate, duck, counts, n, drums);
-    let gain = product_by_two(rate, counts, duck.count, duck.ducking, n);
+    let gain = Kicks::of(duck, counts).product_by_two(duck.ducking, rate, n);
     Ducked { duck, gain }
 }
 
@@ -323,14 +295,12 @@ fn duck_two(rate: DuckRate, duck: Duck, counts: &mut [u64], n: u64, drums: bool)
     ensures second_step { gave result.duck counts.new result.gains.after ≡ gain_on rate drums (n + 1) (gain_on rate drums n (duck_on duck counts.old)).next }
 {
     let first = moved(rate, duck, counts, n, drums);
-    let gains = products(rate, counts, first.count, first.ducking, n);
+    let gains = Kicks::of(first, counts).products(first.ducking, rate, n);
     let duck = moved(rate, first, counts, n + 1, drums);
-    if duck.reached == first.reached {
-        if duck.ducking == first.ducking {
-            return DuckedTwo { duck, gains };
-        }
+    if duck == first {
+        return DuckedTwo { duck, gains };
     }
-    let after = product(rate, counts, duck.count, duck.ducking, n + 1, 1.0);
+    let after = Kicks::of(duck, counts).product(duck.ducking, rate, n + 1, 1.0);
     DuckedTwo {
         duck,
         gains: Gains {
@@ -342,7 +312,7 @@ fn duck_two(rate: DuckRate, duck: Duck, counts: &mut [u64], n: u64, drums: bool)
 
 pub fn duck_block(
     rate: DuckRate,
-    duck: Duck,
+    mut duck: Duck,
     counts: &mut [u64],
     block: &mut [f64],
     n: u64,
@@ -353,18 +323,17 @@ pub fn duck_block(
     ensures duck_after { duck_on result counts.new ≡ ran (duck_step_on rate drums) n (duck_on duck counts.old) block.old }
     ensures block_after { block.new ≡ outs (duck_step_on rate drums) n (duck_on duck counts.old) block.old }
 {
-    let mut duck = duck;
-    let mut i: usize = 0;
+    let mut i = 0;
     while i + 1 < block.len() {
         let g = duck_two(rate, duck, counts, n + i as u64, drums);
-        block[i] = block[i] * g.gains.at;
-        block[i + 1] = block[i + 1] * g.gains.after;
+        block[i] *= g.gains.at;
+        block[i + 1] *= g.gains.after;
         duck = g.duck;
         i += 2;
     }
     if i < block.len() {
         let g = duck_step(rate, duck, counts, n + i as u64, drums);
-        block[i] = block[i] * g.gain;
+        block[i] *= g.gain;
         duck = g.duck;
     }
     duck

@@ -26,7 +26,7 @@ fn short(n: u64) -> f64
     requires { n < 4294967296 }
     ensures { result ≡ whole n }
 {
-    f64::from_bits(n + 4841369599423283200) - 4503599627370496.0
+    f64::from_bits(n + 0x4330_0000_0000_0000) - 4503599627370496.0
 }
 
 // n as a float. Below 2^32, where all that is since a kick lies, one conversion does.
@@ -34,9 +34,10 @@ fn counted(n: u64) -> f64
     ensures { result ≡ whole n }
 {
     if n < 4294967296 {
-        return short(n);
+        short(n)
+    } else {
+        std::num::nearest_u64_to_f64(n)
     }
-    std::num::nearest_u64_to_f64(n)
 }
 
 // The gain of a kick that releases, so many samples since its attack.
@@ -51,18 +52,19 @@ fn past_attack(rate: DuckRate, up: u64) -> f64
     ensures { result ≡ sidechain_gain rate (rate.attack + up) }
 {
     if up < rate.release {
-        return releasing(rate, counted(up));
+        releasing(rate, counted(up))
+    } else {
+        1.0
     }
-    1.0
 }
 
 pub fn sidechain_gain(rate: DuckRate, since: u64) -> f64
     ensures { result ≡ sidechain_gain rate since }
 {
-    if since < rate.attack {
-        return attack::attack_gain(rate.floor, rate.attack, since);
+    match since.checked_sub(rate.attack) {
+        Some(up) => past_attack(rate, up),
+        None => attack::attack_gain(rate.floor, rate.attack, since),
     }
-    past_attack(rate, since - rate.attack)
 }
 
 // The gain of a kick past its attack at a sample and at the next. Where it releases at both, one branch has the two, for the compiler to
@@ -74,14 +76,15 @@ pub fn sidechain_gains(rate: DuckRate, since: u64) -> Gains
 {
     let up = since - rate.attack;
     if up + 1 < rate.release {
-        return Gains {
+        Gains {
             at: releasing(rate, short(up)),
             after: releasing(rate, short(up + 1)),
-        };
-    }
-    Gains {
-        at: past_attack(rate, up),
-        after: past_attack(rate, up + 1),
+        }
+    } else {
+        Gains {
+            at: past_attack(rate, up),
+            after: past_attack(rate, up + 1),
+        }
     }
 }
 
@@ -89,14 +92,7 @@ pub fn sidechain_gains(rate: DuckRate, since: u64) -> Gains
 pub fn releases(rate: DuckRate, since: u64) -> bool
     ensures { result ≡ releases rate since }
 {
-    if since < rate.attack {
-        return false;
-    }
-    let up = since - rate.attack;
-    if rate.release <= up {
-        return false;
-    }
-    up < 4294967296
+    rate.attack <= since && since - rate.attack < rate.release && since - rate.attack < 4294967296
 }
 
 // The gains of two kicks that release, so many samples since each.

@@ -1,25 +1,22 @@
-use borrow.Author.Rules.{rules}
-use mathlib.Core.Path.{refl, sym, ◌∙◌}
+use Rattle.std.proofs.Common.{◌≡◌, sym, ◌∙◌, arith}
 use Rattle.duck.proofs.Loops.{released_more, released_stop, released_done}
 use Rattle.duck.proofs.advance.Goals as goal
-
-pub loop-first-init : goal.loop-first-init
-loop-first-init c = (search rules, refl)
 
 pub returns-then-not-has_released : goal.returns-then-not-has_released
 returns-then-not-has_released c =
     let l = c.loop-first in
-    let s = c in
-    released_stop _ _ s.requires.1 s.requires.0 _ _ l.first c.loop-first-test.true (sym c.has_released.ensures ∙ c.if-not-has_released.true) ∙ l.invariant.1
+    let w = c.requires in
+    released_stop _ _ w.few w.sized _ _ l.first c.loop-first-test.true (sym c.has_released.ensures ∙ c.if-not-has_released.true) ∙ l.invariant
 
 pub loop-first-preserved : goal.loop-first-preserved
 loop-first-preserved c =
     let l = c.loop-first in
-    let s = c in
-    (search rules, released_more _ _ s.requires.1 s.requires.0 _ _ l.first c.loop-first-test.true (sym c.has_released.ensures ∙ c.if-not-has_released.false) ∙ l.invariant.1)
+    let w = c.requires in
+    released_more _ _ w.few w.sized _ _ l.first c.loop-first-test.true (sym c.has_released.ensures ∙ c.if-not-has_released.false) ∙ l.invariant
 
 pub returns : goal.returns
 returns c =
     let l = c.loop-first in
-    let s = c in
-    released_done _ _ s.requires.1 s.requires.0 _ _ l.first c.loop-first-test.false ∙ l.invariant.1
+    let w = c.requires in
+    let all : l.first ≡ c.args.duck.count = omega (arith, w.ducking) in
+    sym all ∙ (released_done _ _ w.few w.sized _ _ l.first c.loop-first-test.false ∙ l.invariant)

@@ -15,9 +15,8 @@ short-requires-2 c = (releases_says _ _ c.requires.1).2
 
 pub returns : goal.returns
 returns c =
-    let s = c in
-    let f = releases_says s.args.rate s.args.first s.requires.0 in
-    let g = releases_says s.args.rate s.args.second s.requires.1 in
+    let f = releases_says c.args.rate c.args.first c.requires.0 in
+    let g = releases_says c.args.rate c.args.second c.requires.1 in
     record {
       at_value = rw (c.releasing.ensures, c.short.ensures) (gain_releasing _ _ f.0 f.1);
       after_value = rw (c.releasing-2.ensures, c.short-2.ensures) (gain_releasing _ _ g.0 g.1);

@@ -1,8 +1,0 @@
-use borrow.Author.Tests.{eq-eqb, ne_eqb}
-use Rattle.duck.proofs.times_gain.Goals as goal
-
-pub returns-then-mark-eq0 : goal.returns-then-mark-eq0
-returns-then-mark-eq0 c = rw (eq-eqb _ _ c.if-mark-eq0.true)
-
-pub returns : goal.returns
-returns c = rw (ne_eqb _ _ c.if-mark-eq0.false, c.sidechain_gain.ensures)
