@@ -1,6 +1,5 @@
 -- The rate's numbers fit the places that the harness lends. Assumes nothing.
-use mathlib.Core.Path.{◌≡◌, refl, sym, ap, ◌∙◌, subst, subst⁻¹}
-use mathlib.Core.Bool.{Bool, true}
+use mathlib.Core.Path.{◌≡◌, refl, subst⁻¹}
 use mathlib.Core.List.{List}
 use Prim.Native.Nat.{ℕ, ◌≤◌}
 use native.Mathlib.Omega.{arith}
@@ -35,7 +34,3 @@ pub stays : (r : CeilingRate) (n : ℕ) (c k : CeilingIn) (fs : List Frame) → 
     → T (well_formed (ceiling_rate 44100) c)
     → T (well_formed (ceiling_rate 44100) k)
 stays r n c k fs e h s t w = rw (h, e) (well_formed_after (ceiling_rate 44100) usable_44100 n c fs (sized_of (ceiling_rate 44100) c.samples c.counts refl s t) w)
-
--- a ceiling that passes the test is well-formed
-pub passes : (b : Bool) (r : CeilingRate) (k : CeilingIn) → r ≡ ceiling_rate 44100 → b ≡ well_formed r k → b ≡ true → T (well_formed (ceiling_rate 44100) k)
-passes b r k e h t = subst T (sym t ∙ h ∙ ap (λ (x : CeilingRate). well_formed x k) e) tt

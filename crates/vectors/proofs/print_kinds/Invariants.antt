@@ -1,9 +1,0 @@
--- `vectors::print_kinds` is safe and ends. Assumes nothing.
-use Rattle.std.proofs.Common.{◌-◌, ◌≤◌}
-use Rattle.vectors.proofs.print_kinds.Given as goal
-
-abbrev pub invariant-loop-k : goal.invariant-loop-k
-invariant-loop-k g l = l.k ≤ 15
-
-abbrev pub decreases-loop-k : goal.decreases-loop-k
-decreases-loop-k g l = 15 - l.k
