@@ -38,13 +38,7 @@ fn coefficients(s: Section) -> [f64; 5] {
 
 // A low-pass that is tuned to hz, its past being zero.
 fn lowpass_at(hz: f32) -> Lowpass {
-    let silent = Section::new(Coefficients {
-        b0: 0.0,
-        b1: 0.0,
-        b2: 0.0,
-        a1: 0.0,
-        a2: 0.0,
-    });
+    let silent = Section::new(Coefficients::default());
     let lowpass = Lowpass {
         first: silent,
         second: silent,
