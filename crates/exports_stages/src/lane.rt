@@ -51,10 +51,12 @@ impl Call {
     }
 }
 
+// A control that stays as it is.
 pub(crate) fn held(control: f32) -> Ramp {
     Ramp::held(casts::widen(control), Shape::Linear)
 }
 
+// A lane, with what it plays by and the parts that it is lent.
 #[derive(Drop)]
 pub(crate) struct Lane<'a> {
     pub setup: TapeSetup,
