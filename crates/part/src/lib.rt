@@ -9,10 +9,11 @@ ghost use Rattle.strip.specs.Calls.{open_call, run_call, latch_call, rest_call};
 ghost use Rattle.part.specs.Pieces.{opened, went};
 
 use rate::{Rate, places};
-use strip::{Bus, Controls, Lane, Opened, Outcome, Rested, Setup, Strip};
+use strip::{Bus, Controls, Declined, Lane, Refusal, Setup, Strip};
 
 // ---- open
 
+#[tactic(auto, unfolding(strip::specs::Calls::open_call))]
 pub fn open(
     setup: Setup,
     positions: &[u64],
@@ -20,16 +21,12 @@ pub fn open(
     kicks: &[u64],
     store: &mut [f64],
     counts: &mut [u64],
-) -> Opened
+) -> Result<Strip, Refusal>
     ensures { opened result store.new counts.new ≡ open_call (rate_of 44100) setup (lists_of positions.now values.now kicks.now) store.old counts.old }
 {
     let rate = Rate::cd();
-    let number = refusals::open_refusal(rate, setup, positions, values, kicks, store, counts);
-    if number != 0 {
-        return Opened::Refused(number);
-    }
-    let strip = opening::open_strip(rate, setup, positions, values, kicks, store, counts);
-    Opened::Strip(strip)
+    refusals::check_open(rate, setup, positions, values, kicks, store, counts)?;
+    Ok(opening::open_strip(rate, setup, positions, values, kicks, store, counts))
 }
 
 // ---- run
@@ -42,75 +39,63 @@ pub fn run(
     gains: &mut [u64],
     store: &mut [f64],
     counts: &mut [u64],
-) -> Outcome
+) -> Result<Strip, Declined>
     ensures { went result store.new counts.new frames.new gains.new ≡ run_call (rate_of 44100) (state strip store.old counts.old) samples.now drums frames.old gains.old }
 {
-    let number = refusals::first(strip, store, counts);
-    if number != 0 {
-        return Outcome::Declined(number, strip);
-    }
-    let own = refusals::run_refusal(strip.position, samples, frames.len(), gains.len());
-    if own != 0 {
-        return Outcome::Declined(own, strip);
-    }
-    let next = blocks::go(strip, samples, drums, frames, gains, store, counts);
-    Outcome::Now(next)
+    refusals::check_strip(strip, store, counts)
+        .and_then(|()| refusals::check_run(strip.position, samples, frames.len(), gains.len()))
+        .map_err(|refusal| Declined { refusal, strip })?;
+    Ok(blocks::go(strip, samples, drums, frames, gains, store, counts))
 }
 
 // ---- latch
 
 // Both ramps on their way from n. The lane's tuning follows the daylight's, so it is given up.
+#[tactic(auto, unfolding(strip::specs::Kept::lane_latched_on))]
 pub fn lane_latched(n: u64, lane: Lane, controls: Controls) -> Lane
     ensures { result ≡ lane_latched_on n lane controls }
 {
-    let setup = lane.setup;
-    let tape = tape::untuned(lane.tape);
-    let daylight = lane
-        .daylight
-        .toward(n, casts::widen(controls.daylight), controls.grading);
-    let rain = lane
-        .rain
-        .toward(n, casts::widen(controls.rain), controls.darkening);
     Lane {
-        setup,
-        points: lane.points,
-        daylight,
-        rain,
-        tape,
+        daylight: lane
+            .daylight
+            .toward(n, casts::widen(controls.daylight), controls.grading),
+        rain: lane
+            .rain
+            .toward(n, casts::widen(controls.rain), controls.darkening),
+        tape: tape::untuned(lane.tape),
+        ..lane
     }
 }
 
+#[tactic(auto, unfolding(strip::specs::Kept::latched_strip))]
 fn latched(strip: Strip, controls: Controls) -> Strip
     ensures { result ≡ latched_strip strip controls }
 {
-    let n = strip.position;
-    let bus = strip.bus;
-    let lane = lane_latched(n, strip.lane, controls);
     Strip {
-        position: n,
-        lane,
-        bus,
+        lane: lane_latched(strip.position, strip.lane, controls),
+        ..strip
     }
 }
 
-pub fn latch(strip: Strip, controls: Controls, store: &[f64], counts: &[u64]) -> Outcome
+#[tactic(auto, using(refusals::proofs::Numbers::first_is), unfolding(strip::specs::Calls::latch_call))]
+pub fn latch(
+    strip: Strip,
+    controls: Controls,
+    store: &[f64],
+    counts: &[u64],
+) -> Result<Strip, Declined>
     ensures { result ≡ latch_call (rate_of 44100) (state strip store.now counts.now) controls }
 {
-    let number = refusals::first(strip, store, counts);
-    if number != 0 {
-        return Outcome::Declined(number, strip);
-    }
-    let own = refusals::latch_refusal(controls);
-    if own != 0 {
-        return Outcome::Declined(own, strip);
-    }
-    let next = latched(strip, controls);
-    Outcome::Now(next)
+    refusals::check_strip(strip, store, counts)
+        .and_then(|()| refusals::check_latch(controls))
+        .map_err(|refusal| Declined { refusal, strip })?;
+    Ok(latched(strip, controls))
 }
 
 // ---- rest
 
 // Whether the lane's filters and the warp's line hold only zeros.
+#[tactic(auto, unfolding(strip::specs::Kept::lane_resting_on))]
 pub fn lane_resting(rate: Rate, lane: Lane, samples: &[f64]) -> bool
     requires { length samples.now ≡ lane_samples rate }
     ensures { result ≡ lane_resting_on rate lane samples.now }
@@ -120,6 +105,7 @@ pub fn lane_resting(rate: Rate, lane: Lane, samples: &[f64]) -> bool
 }
 
 // Whether the plate's filters and lines do.
+#[tactic(auto, unfolding(strip::specs::Kept::bus_resting_on))]
 pub fn bus_resting(rate: Rate, bus: Bus, samples: &[f64]) -> bool
     requires rate_usable { RateUsable rate }
     requires samples_len { length samples.now ≡ bus_samples rate }
@@ -130,29 +116,22 @@ pub fn bus_resting(rate: Rate, bus: Bus, samples: &[f64]) -> bool
 }
 
 // Lends each its parts of the stores.
+#[tactic(auto, unfolding(strip::specs::Kept::resting_on))]
 fn resting(rate: Rate, strip: Strip, store: &[f64], counts: &[u64]) -> bool
     requires rate_usable { RateUsable rate }
     requires sized { Sized rate store.now counts.now }
     ensures { result ≡ resting_on rate (state strip store.now counts.now) }
 {
-    let lane = strip.lane;
-    let bus = strip.bus;
     let lane_at = places::bus_samples(rate);
     let lane_end = lane_at + places::lane_samples(rate);
-    if !lane_resting(rate, lane, &store[lane_at..lane_end]) {
-        return false;
-    }
-    bus_resting(rate, bus, &store[0..lane_at])
+    lane_resting(rate, strip.lane, &store[lane_at..lane_end])
+        && bus_resting(rate, strip.bus, &store[0..lane_at])
 }
 
-pub fn rest(strip: Strip, store: &[f64], counts: &[u64]) -> Rested
+#[tactic(auto, unfolding(strip::specs::Calls::rest_call))]
+pub fn rest(strip: Strip, store: &[f64], counts: &[u64]) -> Result<bool, Declined>
     ensures { result ≡ rest_call (rate_of 44100) (state strip store.now counts.now) }
 {
-    let number = refusals::first(strip, store, counts);
-    if number != 0 {
-        return Rested::Declined(number, strip);
-    }
-    let rate = Rate::cd();
-    let answer = resting(rate, strip, store, counts);
-    Rested::Rests(answer)
+    refusals::check_strip(strip, store, counts).map_err(|refusal| Declined { refusal, strip })?;
+    Ok(resting(Rate::cd(), strip, store, counts))
 }

@@ -1,4 +1,5 @@
-// Document 01, 'When the part declines': a function for each ground, true where the part does not decline, and the numbers in their order.
+// Document 01, 'When the part declines': a function for each ground, true where the part does not decline, and for each call one that takes its
+// grounds in their order and answers the refusal of the first that fails.
 // Uses casts, ranges, duck, master and rate, and strip for the types and definitions.
 #![tactic(auto)]
 
@@ -17,18 +18,16 @@ use duck::Duck;
 use oscillators::Pad;
 use ramp::Ramp;
 use rate::{Rate, places};
-use strip::{Bus, Controls, Lane, Setup, Strip};
+use strip::{Bus, Controls, Lane, Refusal, Setup, Strip};
 use tape::TapeSetup;
 
 // ---- 1
 
+#[tactic(auto, unfolding(strip::specs::Refusals::long_enough))]
 pub fn long_enough(rate: Rate, store: &[f64], counts: &[u64]) -> bool
     ensures { result ≡ long_enough rate store.now counts.now }
 {
-    if store.len() < rate.samples {
-        return false;
-    }
-    rate.counts <= counts.len()
+    rate.samples <= store.len() && rate.counts <= counts.len()
 }
 
 // ---- 2
@@ -45,22 +44,11 @@ fn ok_drive(x: f64) -> bool
     ranges::in_range(0.1, 8.0, x)
 }
 
-fn ok_drive_f32(x: f32) -> bool
-    ensures { result ≡ ok_drive x }
-{
-    ok_drive(casts::widen(x))
-}
-
+#[tactic(auto, unfolding(strip::specs::Refusals::ok_unit))]
 fn ok_unit(x: f64) -> bool
     ensures { result ≡ ok_unit x }
 {
     ranges::in_range(0.0, 1.0, x)
-}
-
-fn ok_unit_f32(x: f32) -> bool
-    ensures { result ≡ ok_unit x }
-{
-    ok_unit(casts::widen(x))
 }
 
 fn ok_gain(x: f64) -> bool
@@ -69,41 +57,23 @@ fn ok_gain(x: f64) -> bool
     ranges::in_range(0.0, 16.0, x)
 }
 
-fn ok_fixed(corner: f32, drive: f64) -> bool
-    ensures { result ≡ ok_tone (Tone.Fixed corner drive) }
-{
-    if !ok_corner(corner) {
-        return false;
-    }
-    ok_drive(drive)
-}
-
-fn ok_graded(night_corner: f32, day_corner: f32, night_drive: f32, day_drive: f32) -> bool
-    ensures { result ≡ ok_tone (Tone.Graded night_corner day_corner night_drive day_drive) }
-{
-    if !ok_corner(night_corner) {
-        return false;
-    }
-    if !ok_corner(day_corner) {
-        return false;
-    }
-    if !ok_drive_f32(night_drive) {
-        return false;
-    }
-    ok_drive_f32(day_drive)
-}
-
+#[tactic(auto, unfolding(strip::specs::Refusals::ok_tone))]
 fn ok_tone(tone: Tone) -> bool
     ensures { result ≡ ok_tone tone }
 {
     match tone {
-        Tone::Fixed { corner, drive } => ok_fixed(corner, drive),
+        Tone::Fixed { corner, drive } => ok_corner(corner) && ok_drive(drive),
         Tone::Graded {
             night_corner,
             day_corner,
             night_drive,
             day_drive,
-        } => ok_graded(night_corner, day_corner, night_drive, day_drive),
+        } => {
+            ok_corner(night_corner)
+                && ok_corner(day_corner)
+                && ok_drive(casts::widen(night_drive))
+                && ok_drive(casts::widen(day_drive))
+        }
     }
 }
 
@@ -113,95 +83,62 @@ fn ok_hz(x: f32) -> bool
     ranges::in_range(0.0, 20.0, casts::widen(x))
 }
 
-fn ok_swell(pad: Pad) -> bool
-    ensures { result ≡ ok_pad (Some pad) }
-{
-    if !ok_hz(pad.hz) {
-        return false;
-    }
-    ok_unit_f32(pad.depth)
-}
-
+#[tactic(auto, unfolding(strip::specs::Refusals::ok_pad))]
 fn ok_pad(pad: Option<Pad>) -> bool
     ensures { result ≡ ok_pad pad }
 {
     match pad {
         None => true,
-        Some(swell) => ok_swell(swell),
+        Some(pad) => ok_hz(pad.hz) && ok_unit(casts::widen(pad.depth)),
     }
 }
 
+#[tactic(auto, unfolding(strip::specs::Refusals::ok_tape))]
 fn ok_tape(setup: TapeSetup) -> bool
     ensures { result ≡ ok_tape setup }
 {
-    let tone = setup.tone;
-    let pad = setup.pad;
-    if !ok_tone(tone) {
-        return false;
-    }
-    if !ok_pad(pad) {
-        return false;
-    }
-    if !ok_gain(setup.input) {
-        return false;
-    }
-    ok_gain(setup.output)
+    ok_tone(setup.tone) && ok_pad(setup.pad) && ok_gain(setup.input) && ok_gain(setup.output)
 }
 
+#[tactic(auto, unfolding(strip::specs::Refusals::ok_setup))]
 pub fn ok_setup(setup: Setup) -> bool
     ensures { result ≡ ok_setup setup }
 {
-    let tape = setup.tape;
-    if !ok_tape(tape) {
-        return false;
-    }
-    if !ok_unit_f32(setup.daylight) {
-        return false;
-    }
-    if !ok_unit_f32(setup.rain) {
-        return false;
-    }
-    ok_unit(setup.send)
+    ok_tape(setup.tape)
+        && ok_unit(casts::widen(setup.daylight))
+        && ok_unit(casts::widen(setup.rain))
+        && ok_unit(setup.send)
 }
 
 // ---- 3
 
+#[tactic(auto, unfolding(strip::specs::Refusals::ok_points))]
 fn ok_points(positions: &[u64], values: &[f64]) -> bool
     ensures { result ≡ ok_points positions.now values.now }
 {
-    let n = positions.len();
-    if ranges::MOST_POINTS < n {
-        return false;
-    }
-    if n != values.len() {
-        return false;
-    }
-    if !ranges::rising(positions) {
-        return false;
-    }
-    ranges::all_in_range(0.0, 1.0, values)
+    positions.len() <= ranges::MOST_POINTS
+        && positions.len() == values.len()
+        && ranges::rising(positions)
+        && ranges::all_in_range(0.0, 1.0, values)
 }
 
+#[tactic(auto, unfolding(strip::specs::Refusals::ok_kicks))]
 fn ok_kicks(kicks: &[u64]) -> bool
     ensures { result ≡ ok_kicks kicks.now }
 {
-    if ranges::MOST_KICKS < kicks.len() {
-        return false;
-    }
-    ranges::rising(kicks)
+    kicks.len() <= ranges::MOST_KICKS && ranges::rising(kicks)
 }
 
+#[tactic(auto, unfolding(strip::specs::Refusals::ok_lists))]
 fn ok_lists(positions: &[u64], values: &[f64], kicks: &[u64]) -> bool
     ensures { result ≡ ok_lists (lists_of positions.now values.now kicks.now) }
 {
-    if !ok_points(positions, values) {
-        return false;
-    }
-    ok_kicks(kicks)
+    ok_points(positions, values) && ok_kicks(kicks)
 }
 
-// 1, 2 and 3, or 0.
-pub fn open_refusal(
+// 1, 2 and 3.
+#[tactic(auto, unfolding(strip::specs::Calls::first_of))]
+pub fn check_open(
     rate: Rate,
     setup: Setup,
     positions: &[u64],
@@ -209,31 +146,28 @@ pub fn open_refusal(
     kicks: &[u64],
     store: &[f64],
     counts: &[u64],
-) -> u64
+) -> Result<(), Refusal>
     ensures { result ≡ first_of (open_grounds rate setup (lists_of positions.now values.now kicks.now) store.now counts.now) }
 {
     if !long_enough(rate, store, counts) {
-        return 1;
+        return Err(Refusal::StoreShort);
     }
     if !ok_setup(setup) {
-        return 2;
+        return Err(Refusal::BadSetup);
     }
-    if ok_lists(positions, values, kicks) {
-        0
-    } else {
-        3
+    if !ok_lists(positions, values, kicks) {
+        return Err(Refusal::BadList);
     }
+    Ok(())
 }
 
 // ---- 4
 
+#[tactic(auto, unfolding(strip::specs::Refusals::ok_ramp))]
 fn ok_ramp(ramp: Ramp) -> bool
     ensures { result ≡ ok_ramp ramp }
 {
-    if ranges::LAST_POSITION < ramp.start {
-        return false;
-    }
-    ramp.len <= ranges::LAST_POSITION
+    ramp.start <= ranges::LAST_POSITION && ramp.len <= ranges::LAST_POSITION
 }
 
 // The kept lists: no more points than there is room for, and these and the kicks as 3 asks.
@@ -245,37 +179,27 @@ fn lists_formed(rate: Rate, points: usize, duck: Duck, samples: &[f64], counts: 
         return false;
     }
     let w = places::warp_samples(rate);
-    let v = w + points;
-    let p = duck::COUNTS + points;
-    if !ok_points(&counts[duck::COUNTS..p], &samples[w..v]) {
-        return false;
-    }
-    duck::formed(duck, &counts[0..duck::COUNTS])
+    ok_points(
+        &counts[duck::COUNTS..duck::COUNTS + points],
+        &samples[w..w + points],
+    ) && duck::formed(duck, &counts[0..duck::COUNTS])
 }
 
 // A lane, with its own parts of the stores.
+#[tactic(auto, unfolding(strip::specs::Kept::lane_formed))]
 pub fn lane_formed(rate: Rate, lane: Lane, samples: &[f64], counts: &[u64]) -> bool
     requires rate_usable { RateUsable rate }
     requires lane_long { LaneLong rate (lane_on lane samples.now counts.now) }
     ensures { result ≡ lane_formed rate (lane_on lane samples.now counts.now) }
 {
-    let daylight = lane.daylight;
-    let rain = lane.rain;
-    let setup = lane.setup;
-    let duck = lane.tape.duck;
-    if !ok_ramp(daylight) {
-        return false;
-    }
-    if !ok_ramp(rain) {
-        return false;
-    }
-    if !ok_setup(setup) {
-        return false;
-    }
-    lists_formed(rate, lane.points, duck, samples, counts)
+    ok_ramp(lane.daylight)
+        && ok_ramp(lane.rain)
+        && ok_setup(lane.setup)
+        && lists_formed(rate, lane.points, lane.tape.duck, samples, counts)
 }
 
 // A bus, with its own.
+#[tactic(auto, unfolding(strip::specs::Kept::bus_formed))]
 pub fn bus_formed(rate: Rate, bus: Bus, samples: &[f64], counts: &[u64]) -> bool
     requires rate_usable { RateUsable rate }
     requires bus_long { BusLong rate (bus_on bus samples.now counts.now) }
@@ -286,69 +210,57 @@ pub fn bus_formed(rate: Rate, bus: Bus, samples: &[f64], counts: &[u64]) -> bool
 }
 
 // Lends each its parts of the stores.
+#[tactic(auto, unfolding(strip::specs::Kept::formed))]
 fn formed(rate: Rate, strip: Strip, store: &[f64], counts: &[u64]) -> bool
     requires rate_usable { RateUsable rate }
     requires sized { Sized rate store.now counts.now }
     ensures { result ≡ formed rate (state strip store.now counts.now) }
 {
-    if ranges::LAST_POSITION < strip.position {
-        return false;
-    }
-    let lane = strip.lane;
-    let bus = strip.bus;
     let lane_at = places::bus_samples(rate);
     let counts_at = places::bus_counts(rate);
     let lane_end = lane_at + places::lane_samples(rate);
     let counts_end = counts_at + places::LANE_COUNTS;
-    if !lane_formed(
-        rate,
-        lane,
-        &store[lane_at..lane_end],
-        &counts[counts_at..counts_end],
-    ) {
-        return false;
-    }
-    bus_formed(rate, bus, &store[0..lane_at], &counts[0..counts_at])
+    strip.position <= ranges::LAST_POSITION
+        && lane_formed(
+            rate,
+            strip.lane,
+            &store[lane_at..lane_end],
+            &counts[counts_at..counts_end],
+        )
+        && bus_formed(rate, strip.bus, &store[..lane_at], &counts[..counts_at])
 }
 
-// 1 and 4, or 0. The rate is made here, so that its numbers are constants to the compiler.
-pub fn first(strip: Strip, store: &[f64], counts: &[u64]) -> u64
+// 1 and 4. The rate is made here, so that its numbers are constants to the compiler.
+#[tactic(auto, unfolding(strip::specs::Calls::first, strip::specs::Calls::first_of))]
+pub fn check_strip(strip: Strip, store: &[f64], counts: &[u64]) -> Result<(), Refusal>
     ensures { result ≡ first (rate_of 44100) (state strip store.now counts.now) [] }
 {
     let rate = Rate::cd();
     if !long_enough(rate, store, counts) {
-        return 1;
+        return Err(Refusal::StoreShort);
     }
-    if formed(rate, strip, store, counts) {
-        0
-    } else {
-        4
+    if !formed(rate, strip, store, counts) {
+        return Err(Refusal::BadStrip);
     }
+    Ok(())
 }
 
 // ---- 5, 6 and 7
 
 // With no product that could wrap.
+#[tactic(auto, unfolding(strip::specs::Refusals::ok_outputs))]
 fn ok_outputs(samples: usize, frames: usize, gains: usize) -> bool
     ensures { result ≡ ok_outputs samples frames gains }
 {
-    if frames % 2 != 0 {
-        return false;
-    }
-    if frames / 2 != samples {
-        return false;
-    }
-    gains == samples
+    frames % 2 == 0 && frames / 2 == samples && gains == samples
 }
 
 // With no sum that could wrap.
+#[tactic(auto, unfolding(strip::specs::Refusals::ok_end))]
 fn ok_end(position: u64, samples: usize) -> bool
     ensures { result ≡ ok_end position samples }
 {
-    if ranges::LAST_POSITION < position {
-        return false;
-    }
-    samples as u64 <= ranges::LAST_POSITION - position
+    position <= ranges::LAST_POSITION && samples as u64 <= ranges::LAST_POSITION - position
 }
 
 fn ok_samples(samples: &[f64]) -> bool
@@ -357,40 +269,42 @@ fn ok_samples(samples: &[f64]) -> bool
     ranges::all_in_range(-1024.0, 1024.0, samples)
 }
 
-// 5, 6 and 7, or 0.
-pub fn run_refusal(position: u64, samples: &[f64], frames: usize, gains: usize) -> u64
+// 5, 6 and 7.
+#[tactic(auto, unfolding(strip::specs::Calls::first_of))]
+pub fn check_run(position: u64, samples: &[f64], frames: usize, gains: usize) -> Result<(), Refusal>
     ensures { result ≡ first_of (run_grounds position samples.now frames gains) }
 {
-    let n = samples.len();
-    if !ok_outputs(n, frames, gains) {
-        return 5;
+    if !ok_outputs(samples.len(), frames, gains) {
+        return Err(Refusal::BadOutput);
     }
-    if !ok_end(position, n) {
-        return 6;
+    if !ok_end(position, samples.len()) {
+        return Err(Refusal::PastEnd);
     }
-    if ok_samples(samples) { 0 } else { 7 }
+    if !ok_samples(samples) {
+        return Err(Refusal::BadSample);
+    }
+    Ok(())
 }
 
 // ---- 8
 
+#[tactic(auto, unfolding(strip::specs::Refusals::ok_controls))]
 fn ok_controls(controls: Controls) -> bool
     ensures { result ≡ ok_controls controls }
 {
-    if !ok_unit_f32(controls.daylight) {
-        return false;
-    }
-    if !ok_unit_f32(controls.rain) {
-        return false;
-    }
-    if ranges::LAST_POSITION < controls.grading {
-        return false;
-    }
-    controls.darkening <= ranges::LAST_POSITION
+    ok_unit(casts::widen(controls.daylight))
+        && ok_unit(casts::widen(controls.rain))
+        && controls.grading <= ranges::LAST_POSITION
+        && controls.darkening <= ranges::LAST_POSITION
 }
 
-// 8, or 0.
-pub fn latch_refusal(controls: Controls) -> u64
+// 8.
+#[tactic(auto, unfolding(strip::specs::Calls::first_of))]
+pub fn check_latch(controls: Controls) -> Result<(), Refusal>
     ensures { result ≡ first_of (latch_grounds controls) }
 {
-    if ok_controls(controls) { 0 } else { 8 }
+    if !ok_controls(controls) {
+        return Err(Refusal::BadControl);
+    }
+    Ok(())
 }

@@ -1,47 +1,37 @@
 -- What is known once the grounds decline nothing. Assumes nothing.
 use mathlib.Core.Path.{◌≡◌, refl}
-use mathlib.Core.Bool.{Bool, true, false, cond, and-eq-true_iff}
+use mathlib.Core.Bool.{Bool, true, false, and-eq-true_iff}
 use mathlib.Core.List.{List, [], ◌∷◌, ◌++◌}
-use Prim.Native.Nat.{ℕ, suc, ◌+◌, ◌*◌, ◌<◌, ◌≤◌}
-use native.Mathlib.Omega.{arith}
+use Prim.Native.Nat.{ℕ, ◌+◌, ◌*◌, ◌≤◌}
 use lib.ListN.{length}
 use lib.Ieee.{Float}
 use borrow.Author.Tests.{leb-true, eqb-true}
 use Rattle.ranges.specs.Ranges.{most_points, most_kicks, last_position, rising_from}
-use Rattle.stage.specs.Stage.{All}
+use Rattle.std.specs.Prelude.{Result, Ok, Err, ⊤}
 use Rattle.rate.specs.declared.Rate.{Rate}
 use Rattle.rate.specs.Rate.{Sized}
 use Rattle.tape.specs.Tape.{Lists}
 use Rattle.strip.specs.declared.Setup.{Setup}
 use Rattle.strip.specs.declared.Controls.{Controls}
+use Rattle.strip.specs.declared.Refusal.{Refusal}
 use Rattle.strip.specs.Refusals.{long_enough, ok_unit, ok_setup, ok_points, ok_kicks, ok_lists, ok_outputs, ok_end, ok_controls}
-use Rattle.strip.specs.Calls.{first_of, open_grounds, run_grounds, latch_grounds}
+use Rattle.strip.specs.Calls.{first_of, unless, open_grounds, run_grounds, latch_grounds}
+
+no_error : (k : Refusal) → ◌≡◌ {A = Result ⊤ Refusal} (Err k) (Ok tt) → ⊥
+no_error k e = cc
 
 -- a test that comes first has passed, and so have the others
-pub passed : (b : Bool) (k : ℕ) (gs : List (Bool × ℕ)) → first_of ((b, suc k) ∷ gs) ≡ 0 → (b ≡ true) × (first_of gs ≡ 0)
+pub passed : (b : Bool) (k : Refusal) (gs : List (Bool × Refusal)) → first_of ((b, k) ∷ gs) ≡ Ok tt → (b ≡ true) × (first_of gs ≡ Ok tt)
 unfolding first_of
 passed true k gs e = (refl, e)
-passed false k gs e = absurd (omega arith)
+passed false k gs e = absurd (no_error k e)
 
--- a refusal among the first grounds stands, whatever follows
-pub first_stands : (gs own : List (Bool × ℕ)) → (first_of gs ≡ 0 → ⊥) → first_of (gs ++ own) ≡ first_of gs
+-- a refusal among the first grounds stands, whatever follows; where none is, what follows decides
+pub first_then : (gs own : List (Bool × Refusal)) → first_of (gs ++ own) ≡ unless (first_of gs) (first_of own) (λ k. Err k)
 unfolding first_of
-first_stands [] own n = absurd (n refl)
-first_stands (g ∷ gs) own n = by g.0 n (first_stands gs own)
-  where
-    by : (b : Bool) → (cond b (first_of gs) g.1 ≡ 0 → ⊥) → ((first_of gs ≡ 0 → ⊥) → first_of (gs ++ own) ≡ first_of gs) → cond b (first_of (gs ++ own)) g.1 ≡ cond b (first_of gs) g.1
-    by true m behind = behind m
-    by false m behind = refl
-
--- where none is, what follows decides
-pub first_passes : (gs own : List (Bool × ℕ)) → All (λ g. 0 < g.1) gs → first_of gs ≡ 0 → first_of (gs ++ own) ≡ first_of own
-unfolding first_of
-first_passes [] own a e = refl
-first_passes (g ∷ gs) own a e = by g.0 e (first_passes gs own a.1)
-  where
-    by : (b : Bool) → cond b (first_of gs) g.1 ≡ 0 → (first_of gs ≡ 0 → first_of (gs ++ own) ≡ first_of own) → cond b (first_of (gs ++ own)) g.1 ≡ first_of own
-    by true m behind = behind m
-    by false m behind = absurd (omega (arith, m, a.0))
+first_then [] own = refl
+first_then ((true, k) ∷ gs) own = first_then gs own
+first_then ((false, k) ∷ gs) own = refl
 
 pub sized_is : (r : Rate) (store : List Float) (counts : List ℕ) → long_enough r store counts ≡ true → Sized r store counts
 unfolding long_enough
@@ -60,7 +50,7 @@ pub record Opens (r : Rate) (s : Setup) (l : Lists) (store : List Float) (counts
   pub kicks : length l.kicks ≤ most_kicks
   pub risen : rising_from 0 l.kicks ≡ true
 
-pub opens : (r : Rate) (s : Setup) (l : Lists) (store : List Float) (counts : List ℕ) → first_of (open_grounds r s l store counts) ≡ 0 → Opens r s l store counts
+pub opens : (r : Rate) (s : Setup) (l : Lists) (store : List Float) (counts : List ℕ) → first_of (open_grounds r s l store counts) ≡ Ok tt → Opens r s l store counts
 unfolding ok_lists ok_kicks ok_points
 opens r s l store counts e =
     let a = passed _ _ _ e in
@@ -87,7 +77,7 @@ pub record RunsOn (n : ℕ) (xs : List Float) (f g : ℕ) : Type 0 where
   pub gains : g ≡ length xs
   pub end : n + length xs ≤ last_position
 
-pub runs_on : (n : ℕ) (xs : List Float) (frames gains : ℕ) → first_of (run_grounds n xs frames gains) ≡ 0 → RunsOn n xs frames gains
+pub runs_on : (n : ℕ) (xs : List Float) (frames gains : ℕ) → first_of (run_grounds n xs frames gains) ≡ Ok tt → RunsOn n xs frames gains
 unfolding ok_outputs ok_end
 runs_on n xs frames gains e =
     let a = passed _ _ _ e in
@@ -97,7 +87,7 @@ runs_on n xs frames gains e =
 
 -- ---- latch: 8
 
-pub latch_room : (c : Controls) → first_of (latch_grounds c) ≡ 0 → (c.grading ≤ last_position) × (c.darkening ≤ last_position)
+pub latch_room : (c : Controls) → first_of (latch_grounds c) ≡ Ok tt → (c.grading ≤ last_position) × (c.darkening ≤ last_position)
 unfolding ok_controls
 latch_room c e =
     let a = passed _ _ _ e in

@@ -17,6 +17,7 @@ use Rattle.tape.specs.Tape.{Lists}
 use Rattle.master.specs.declared.Heard.{Heard}
 use Rattle.strip.specs.declared.Setup.{Setup}
 use Rattle.strip.specs.declared.Controls.{Controls}
+use Rattle.strip.specs.declared.Refusal.{Refusal}
 use Rattle.strip.specs.Refusals.{long_enough}
 use Rattle.strip.specs.Machine.{LaneMachine, BusMachine, Machine, lane_step, bus_step, sample, fresh, stepped, lane_latched, latched, fed, fed_all, delivers, heard_from, resting}
 use Rattle.strip.specs.Kept.{LaneIn, lane_on, lane_step_on, BusIn, bus_step_on, State, state, bus_in, lane_in, samples_behind, counts_behind, state_of, step_on, ran_on, heard_on, formed, opened_state, lane_latched_on, latched_strip, resting_on}
@@ -61,7 +62,7 @@ is_formed r m st g =
     let p : leb st.strip.position last_position ≡ true = le-leb _ _ (subst (λ (k : ℕ). k ≤ last_position) g.position g.placed) in
     rw (p, lane_formed_lem r m.position m.lane (lane_in r st) g.lane) (bus_formed_lem r m.position m.bus (bus_in r st) g.bus)
 
-pub none_first : (r : Rate) (m : Machine) (st : State) → Stands r m st → (own : List (Bool × ℕ)) → first r st own ≡ first_of own
+pub none_first : (r : Rate) (m : Machine) (st : State) → Stands r m st → (own : List (Bool × Refusal)) → first r st own ≡ first_of own
 unfolding first first_of long_enough
 none_first r m st g own = rw (le-leb _ _ g.sized.long, le-leb _ _ g.sized.wide, is_formed r m st g)
 

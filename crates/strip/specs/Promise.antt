@@ -1,6 +1,6 @@
 -- Demand 3, "a single claim about the whole list, not one for each call": a list of calls, what it is answered, what the machine says to it, and the claim.
 -- The claim is `Demand3`, which takes no argument; `demand3` in proofs/Demand3.antt is a term of it.
-use Rattle.std.specs.Prelude.{ℕ, ◌+◌, ◌-◌, ◌*◌, ◌<◌, ◌≤◌, suc, ◌≡◌, Bool, cond, List, [], ◌∷◌, ◌++◌, map, eqb, length, get_or, Float}
+use Rattle.std.specs.Prelude.{ℕ, ◌+◌, ◌-◌, ◌*◌, ◌<◌, ◌≤◌, suc, ◌≡◌, Bool, List, [], ◌∷◌, ◌++◌, map, length, get_or, Float, Result, Ok, Err, ⊤}
 use Rattle.casts.specs.Step.{step_of}
 use Rattle.stage.specs.System.{System, through}
 use Rattle.stream.specs.declared.Frame.{Frame}
@@ -12,14 +12,12 @@ use Rattle.master.specs.Kept.{frames_out, counts_out}
 use Rattle.strip.specs.declared.Setup.{Setup}
 use Rattle.strip.specs.declared.Controls.{Controls}
 use Rattle.strip.specs.declared.Strip.{Strip}
-use Rattle.strip.specs.declared.Opened as opened
-use Rattle.strip.specs.declared.Outcome.{Outcome}
-use Rattle.strip.specs.declared.Outcome.TheVariants.{Now, Declined}
-use Rattle.strip.specs.declared.Rested as rested
-use Rattle.strip.specs.declared.Rested.{Rested}
+use Rattle.strip.specs.declared.Refusal.{Refusal}
+use Rattle.strip.specs.declared.Declined.{Declined}
+use Rattle.strip.specs.Refusals.{number_of}
 use Rattle.strip.specs.Machine.{Machine, Event, sample, latch, lane_step, mixed_step, fresh, fed, fed_all, heard_from, resting}
 use Rattle.strip.specs.Kept.{State, state}
-use Rattle.strip.specs.Calls.{first_of, run_grounds, latch_grounds, rest_grounds, open_call, run_call, latch_call, rest_call}
+use Rattle.strip.specs.Calls.{first_of, unless, run_grounds, latch_grounds, rest_grounds, open_call, run_call, latch_call, rest_call}
 
 -- ---- a list of calls
 
@@ -37,26 +35,26 @@ pub data Answer : Type 0 where
   declined : ℕ → Answer
 
 -- "In a list of calls each is lent the strip and stores just as the call before left them": a declined call hands back the strip that came
-abbrev pub strip_of : Outcome → Strip
-strip_of (Now s) = s
-strip_of (Declined k s) = s
+abbrev pub strip_of : Result Strip Declined → Strip
+strip_of (Ok s) = s
+strip_of (Err d) = d.strip
 
 -- "Rest gives the rest answer and changes nothing": the strip s that it was lent, or the one that it hands back
-abbrev pub rest_strip : Strip → Rested → Strip
-rest_strip s (rested.TheVariants.Rests b) = s
-rest_strip s (rested.TheVariants.Declined k t) = t
+abbrev pub rest_strip : Strip → Result Bool Declined → Strip
+rest_strip s (Ok b) = s
+rest_strip s (Err d) = d.strip
 
-abbrev pub run_answer : Outcome → List Float → List ℕ → Answer
-run_answer (Now s) frames gains = ran frames gains
-run_answer (Declined k s) frames gains = declined k
+abbrev pub run_answer : Result Strip Declined → List Float → List ℕ → Answer
+run_answer (Ok s) frames gains = ran frames gains
+run_answer (Err d) frames gains = declined (number_of d.refusal)
 
-abbrev pub move_answer : Outcome → Answer
-move_answer (Now s) = moved
-move_answer (Declined k s) = declined k
+abbrev pub move_answer : Result Strip Declined → Answer
+move_answer (Ok s) = moved
+move_answer (Err d) = declined (number_of d.refusal)
 
-abbrev pub rest_answer : Rested → Answer
-rest_answer (rested.TheVariants.Rests b) = rests b
-rest_answer (rested.TheVariants.Declined k s) = declined k
+abbrev pub rest_answer : Result Bool Declined → Answer
+rest_answer (Ok b) = rests b
+rest_answer (Err d) = declined (number_of d.refusal)
 
 unfoldable pub answer_to : Rate → State → Call → Answer
 answer_to r st (run xs d frames gains) = let o = run_call r st xs d frames gains in run_answer o.answer o.frames o.gains
@@ -75,7 +73,7 @@ part_system r = record { answer = answer_to r; next = after r }
 -- ---- the same list, put to the machine
 
 -- "its number is the one that the refusals give, with n as the position, and 4 declines no call of such a list"
-unfoldable pub refusal : ℕ → Call → ℕ
+unfoldable pub refusal : ℕ → Call → Result ⊤ Refusal
 refusal n (run xs d frames gains) = first_of (run_grounds n xs (length frames) (length gains))
 refusal n (move c) = first_of (latch_grounds c)
 refusal n ask = first_of rest_grounds
@@ -87,7 +85,7 @@ events_of ask = []
 
 -- "A declined call changes nothing either"
 unfoldable pub feeds : ℕ → Call → List Event
-feeds n c = cond (eqb (refusal n c) 0) (events_of c) []
+feeds n c = unless (refusal n c) (events_of c) (λ k. [])
 
 unfoldable pub accepted : Rate → Machine → Call → Answer
 accepted r m (run xs d frames gains) = let h = heard_from r m (map (λ x. sample x d) xs) in ran (frames_out h) (counts_out h)
@@ -95,7 +93,7 @@ accepted r m (move c) = moved
 accepted r m ask = rests (resting m)
 
 unfoldable pub says : Rate → Machine → Call → Answer
-says r m c = cond (eqb (refusal m.position c) 0) (accepted r m c) (declined (refusal m.position c))
+says r m c = unless (refusal m.position c) (accepted r m c) (λ k. declined (number_of k))
 
 -- the machine, which answers the same calls
 abbrev pub machine_system : Rate → System Machine Call Answer
@@ -125,7 +123,7 @@ joined_counts (a ∷ l) = counts_of a ++ joined_counts l
 
 -- the joined samples, with each accepted latch at its position: what the calls feed the machine, which the positions alone pick out
 unfoldable pub takes : ℕ → Call → ℕ
-takes n (run xs d frames gains) = cond (eqb (refusal n (run xs d frames gains)) 0) (n + length xs) n
+takes n (run xs d frames gains) = unless (refusal n (run xs d frames gains)) (n + length xs) (λ k. n)
 takes n (move c) = n
 takes n ask = n
 
@@ -165,7 +163,7 @@ pub record Joined (r : Rate) (s : Setup) (l : Lists) (cs : List Call) (answers :
 -- P of every list of calls and the answers to it: "A list of calls starts with the strip and stores just as open left them, and with the machine fresh under the same setup, points and kicks."
 abbrev pub EveryList : Rate → (Setup → Lists → List Call → List Answer → Type 0) → Type 0
 EveryList r P =
-    (s : Setup) (l : Lists) (store : List Float) (counts : List ℕ) (t : Strip) → (open_call r s l store counts).answer ≡ opened.TheVariants.Strip t
+    (s : Setup) (l : Lists) (store : List Float) (counts : List ℕ) (t : Strip) → (open_call r s l store counts).answer ≡ Ok t
     → (cs : List Call) → P s l cs (through (part_system r) (state t (open_call r s l store counts).store (open_call r s l store counts).counts) cs)
 
 unfoldable pub JoinedAt : Rate → Type 0

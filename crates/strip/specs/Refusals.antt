@@ -1,4 +1,4 @@
--- Document 01, 'When the part declines': each ground as a test that is true where the part does not decline. Their numbers and their order, a list for each call, stand in Calls.
+-- Document 01, 'When the part declines': each ground as a test that is true where the part does not decline, and the refusals' numbers. Their order, a list for each call, stands in Calls.
 use Rattle.std.specs.Prelude.{ℕ, ◌+◌, ◌*◌, Bool, true, ◌&&◌, List, leb, eqb, length, Option, None, Some, Float}
 use Rattle.std.specs.Float.{binary64}
 use Rattle.std.specs.Float.Ieee.{of_bits, neg}
@@ -13,6 +13,8 @@ use Rattle.tape.specs.Tape.{Lists}
 use Rattle.rate.specs.declared.Rate.{Rate}
 use Rattle.strip.specs.declared.Setup.{Setup}
 use Rattle.strip.specs.declared.Controls.{Controls}
+use Rattle.strip.specs.declared.Refusal.{Refusal}
+use Rattle.strip.specs.declared.Refusal.TheVariants.{StoreShort, BadSetup, BadList, BadStrip, BadOutput, PastEnd, BadSample, BadControl}
 
 -- "1. A lent store is shorter than 49,152 f64 or 4,096 u64 (all calls)."
 unfoldable pub long_enough : Rate → List Float → List ℕ → Bool
@@ -82,3 +84,14 @@ ok_samples xs = all_in_range (neg (whole 1024)) (whole 1024) xs
 -- "8. A control is NaN or outside 0 to 1, or a ramp length exceeds 2^32 (latch)."
 unfoldable pub ok_controls : Controls → Bool
 ok_controls c = ok_unit c.daylight && (ok_unit c.rain && (leb c.grading last_position && leb c.darkening last_position))
+
+-- the numbers of these sentences
+abbrev pub number_of : Refusal → ℕ
+number_of StoreShort = 1
+number_of BadSetup = 2
+number_of BadList = 3
+number_of BadStrip = 4
+number_of BadOutput = 5
+number_of PastEnd = 6
+number_of BadSample = 7
+number_of BadControl = 8

@@ -1,7 +1,10 @@
-// The strip: a position, a lane and a bus, and what the four calls take and give. No code: the refusals, the one-sample machine, the
-// strip as it is kept, the calls' definitions and the promise stand in specs/, the theorem about every list of calls in proofs/.
+// The strip: a position, a lane and a bus, and what the four calls take and give. No code but two conversions: the refusals, the one-sample
+// machine, the strip as it is kept, the calls' definitions and the promise stand in specs/, the theorem about every list of calls in proofs/.
 // The crate part has the calls. Uses the crates of the stages for their types and definitions.
 #![tactic(auto)]
+
+ghost use Rattle.std.specs.Prelude.{◌≡◌};
+ghost use Rattle.strip.specs.Refusals.{number_of};
 
 use master::Ceiling;
 use plate::Plate;
@@ -51,23 +54,48 @@ pub struct Controls {
     pub darkening: u64,
 }
 
-// What open answers: the strip, or the refusal's number.
-#[derive(Clone, Copy)]
-pub enum Opened {
-    Strip(Strip),
-    Refused(u64),
+// Why the part declines a call (document 01, 'When the part declines'), in the order in which it looks.
+#[derive(Clone, Copy, PartialEq, Eq)]
+pub enum Refusal {
+    StoreShort,
+    BadSetup,
+    BadList,
+    BadStrip,
+    BadOutput,
+    PastEnd,
+    BadSample,
+    BadControl,
 }
 
-// What run and latch answer: the strip as it is now, or the refusal's number with the strip as it came.
-#[derive(Clone, Copy)]
-pub enum Outcome {
-    Now(Strip),
-    Declined(u64, Strip),
+// What C is answered.
+impl From<Refusal> for u64 {
+    ghost from_gives = { λ refusal number. number ≡ number_of refusal };
+
+    fn from(refusal: Refusal) -> u64 {
+        match refusal {
+            Refusal::StoreShort => 1,
+            Refusal::BadSetup => 2,
+            Refusal::BadList => 3,
+            Refusal::BadStrip => 4,
+            Refusal::BadOutput => 5,
+            Refusal::PastEnd => 6,
+            Refusal::BadSample => 7,
+            Refusal::BadControl => 8,
+        }
+    }
 }
 
-// What rest answers: whether the strip is at rest, or the refusal's number with the strip as it came.
+// A declined run, latch or rest: why, and the strip as it came.
 #[derive(Clone, Copy)]
-pub enum Rested {
-    Rests(bool),
-    Declined(u64, Strip),
+pub struct Declined {
+    pub refusal: Refusal,
+    pub strip: Strip,
+}
+
+impl From<Declined> for Refusal {
+    ghost from_gives = { λ declined refusal. refusal ≡ declined.refusal };
+
+    fn from(declined: Declined) -> Refusal {
+        declined.refusal
+    }
 }

@@ -1,36 +1,44 @@
 -- `run` meets its contract. Assumes nothing.
-use mathlib.Core.Path.{refl}
+use mathlib.Core.Path.{◌≡◌, refl, ◌∙◌}
+use lib.ListN.{length}
+use Rattle.std.proofs.Common.{rules}
+use Rattle.std.specs.Prelude.{Ok, []}
 use Rattle.rate.specs.Rate.{rate_of}
 use Rattle.rate.proofs.Rates.{usable_44100}
 use Rattle.strip.specs.Kept.{state}
-use Rattle.part.proofs.Running.{runs, run_first, run_own, run_room, run_done_lem}
+use Rattle.strip.specs.Calls.{first, first_of, run_grounds, run_call}
+use Rattle.strip.proofs.Refusals.{runs_on}
+use Rattle.refusals.proofs.Numbers.{first_is}
+use Rattle.part.proofs.Passed.{went_through}
+use Rattle.part.proofs.Running.{runs, run_done_lem}
 use Rattle.part.proofs.run.Goals as goal
+use Rattle.part.proofs.run.Goals.{In_ok-map_err}
 
-pub returns-then-number-ne0 : goal.returns-then-number-ne0
-returns-then-number-ne0 c =
-    let s = c.args in
-    let st = state s.strip s.store.now s.counts.now in
-    run_first (rate_of 44100) st _ c.first-number.ensures s.samples.now s.drums s.frames.now s.gains.now c.if-number-ne0.true
+strip_passes : (c : In_ok-map_err) → first (rate_of 44100) (state c.args.strip c.args.store.now c.args.counts.now) [] ≡ Ok tt
+strip_passes c = let e = went_through c.and_then.result c.map_err.result _ _ c.map_err.ensures.cases c.in_ok-map_err.was in search rules
 
-pub returns-then-own-ne0 : goal.returns-then-own-ne0
-returns-then-own-ne0 c =
-    let s = c.args in
-    let st = state s.strip s.store.now s.counts.now in
-    run_own (rate_of 44100) st _ c.first-number.ensures s.samples.now s.drums s.frames.now s.gains.now c.if-number-ne0.false _ c.run_refusal-own.ensures c.if-own-ne0.true
+own_passes : (c : In_ok-map_err) → first_of (run_grounds c.args.strip.position c.args.samples.now (length c.args.frames.now) (length c.args.gains.now)) ≡ Ok tt
+own_passes c = let e = went_through c.and_then.result c.map_err.result _ _ c.map_err.ensures.cases c.in_ok-map_err.was in search rules
 
-pub go-next-requires : goal.go-next-requires
-go-next-requires c =
-    let s = c.args in
-    let st = state s.strip s.store.now s.counts.now in
-    let e = c.first-number.ensures in
-    let z = c.if-number-ne0.false in
-    let f = c.run_refusal-own.ensures in
-    let y = c.if-own-ne0.false in
-    let room = run_room (rate_of 44100) st _ e s.samples.now s.drums s.frames.now s.gains.now z _ f y in
-    record { runs = runs (rate_of 44100) st _ e usable_44100 z; samples_bound = room.end; frames_len = (room.frames, room.gains) }
+passes : (c : In_ok-map_err)
+    → first (rate_of 44100) (state c.args.strip c.args.store.now c.args.counts.now) (run_grounds c.args.strip.position c.args.samples.now (length c.args.frames.now) (length c.args.gains.now)) ≡ Ok tt
+passes c = first_is _ _ _ ∙ rw (strip_passes c) (own_passes c)
+
+pub go-requires-clause-runs : goal.go-requires-clause-runs
+go-requires-clause-runs c = runs _ _ usable_44100 (strip_passes (goal.at.go-requires-clause-runs c).In_ok-map_err)
+
+pub go-requires-clause-samples_bound : goal.go-requires-clause-samples_bound
+go-requires-clause-samples_bound c = (runs_on _ _ _ _ (own_passes (goal.at.go-requires-clause-samples_bound c).In_ok-map_err)).end
+
+pub go-requires-clause-frames_len : goal.go-requires-clause-frames_len
+go-requires-clause-frames_len c = let o = runs_on _ _ _ _ (own_passes (goal.at.go-requires-clause-frames_len c).In_ok-map_err) in (o.frames, o.gains)
+
+pub returns-in_err-map_err : goal.returns-in_err-map_err
+unfolding run_call
+returns-in_err-map_err c = search (rules, first_is)
 
 pub returns : goal.returns
 returns c =
+    let p = passes (goal.at.returns c).In_ok-map_err in
     let s = c.args in
-    let st = state s.strip s.store.now s.counts.now in
-    run_done_lem (rate_of 44100) st _ c.first-number.ensures s.samples.now s.drums s.frames.now s.gains.now c.if-number-ne0.false _ c.run_refusal-own.ensures c.if-own-ne0.false _ _ _ _ _ _ _ _ _ _ _ c.go-next.ensures refl refl refl refl refl refl
+    run_done_lem (rate_of 44100) (state s.strip s.store.now s.counts.now) s.samples.now s.drums s.frames.now s.gains.now p _ _ _ _ _ _ _ _ _ _ _ c.go.ensures refl refl refl refl refl refl

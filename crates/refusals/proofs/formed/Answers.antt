@@ -1,44 +1,34 @@
 -- `formed` meets its contract. Assumes nothing.
+use mathlib.Core.Bool.{true≢false}
 use mathlib.Core.Path.{sym, ◌∙◌}
-use native.Mathlib.Nat.{add-sub_cancel_left, sub-zero}
-use native.Mathlib.Omega.{arith}
-use lib.ListN.{length-take, length-drop}
+use native.Mathlib.Nat.{add-sub_cancel_left}
 use Rattle.strip.specs.Kept.{formed}
 use borrow.Author.Tests.{le-leb, lt-leb}
 use Rattle.refusals.proofs.formed.Goals as goal
+use Rattle.refusals.proofs.formed.Goals.{then-strip-le-LAST_POSITION, else-strip-le-LAST_POSITION}
 
-pub returns-then-strip-gt-LAST_POSITION : goal.returns-then-strip-gt-LAST_POSITION
+pub returns-then-lane_formed : goal.returns-then-lane_formed
 unfolding formed
-returns-then-strip-gt-LAST_POSITION c = rw (lt-leb _ _ c.if-strip-gt-LAST_POSITION.true)
+returns-then-lane_formed c =
+    elim c.if-strip-le-LAST_POSITION.branch [
+      | then-strip-le-LAST_POSITION w ↦
+          rw (
+            le-leb _ _ w.if-strip-le-LAST_POSITION.true,
+            sym (simp (add-sub_cancel_left, c.lane_samples.ensures, c.bus_samples-lane_at.ensures, c.bus_counts-counts_at.ensures) at w.lane_formed.ensures) ∙ sym w.value-is ∙ c.if-lane_formed.true,
+          )
+          (simp (c.bus_samples-lane_at.ensures, c.bus_counts-counts_at.ensures) at c.bus_formed.ensures)
+      | else-strip-le-LAST_POSITION w ↦ absurd (true≢false (sym c.if-lane_formed.true ∙ w.value-is ∙ lt-leb _ _ w.if-strip-le-LAST_POSITION.false))
+    ]
 
-pub lane_formed-requires : goal.lane_formed-requires
-lane_formed-requires c =
-    let pre = c.requires in
-    let b = c.bus_samples-lane_at.ensures in
-    let d = c.bus_counts-counts_at.ensures in
-    let e = c.lane_samples.ensures in
-    record { rate_usable = pre.rate_usable; lane_long = record { samples = simp (length-take, length-drop) (omega arith); counts = simp (length-take, length-drop) (omega arith) } }
-
-pub returns-then-not-lane_formed : goal.returns-then-not-lane_formed
+pub returns-else-lane_formed : goal.returns-else-lane_formed
 unfolding formed
-returns-then-not-lane_formed c =
-    rw (
-      le-leb _ _ c.if-strip-gt-LAST_POSITION.false,
-      sym (simp (add-sub_cancel_left, c.lane_samples.ensures, c.bus_samples-lane_at.ensures, c.bus_counts-counts_at.ensures) at c.lane_formed.ensures) ∙ c.if-not-lane_formed.true,
-    )
-
-pub bus_formed-requires : goal.bus_formed-requires
-bus_formed-requires c =
-    let pre = c.requires in
-    let b = c.bus_samples-lane_at.ensures in
-    let d = c.bus_counts-counts_at.ensures in
-    record { rate_usable = pre.rate_usable; bus_long = record { samples = simp length-take (omega arith); counts = simp length-take (omega arith) } }
-
-pub returns : goal.returns
-unfolding formed
-returns c =
-    rw (
-      le-leb _ _ c.if-strip-gt-LAST_POSITION.false,
-      sym (simp (add-sub_cancel_left, c.lane_samples.ensures, c.bus_samples-lane_at.ensures, c.bus_counts-counts_at.ensures) at c.lane_formed.ensures) ∙ c.if-not-lane_formed.false,
-    )
-    (simp (sub-zero, c.bus_samples-lane_at.ensures, c.bus_counts-counts_at.ensures) at c.bus_formed.ensures)
+returns-else-lane_formed c =
+    elim c.if-strip-le-LAST_POSITION.branch [
+      | then-strip-le-LAST_POSITION w ↦
+          rw (
+            le-leb _ _ w.if-strip-le-LAST_POSITION.true,
+            sym (simp (add-sub_cancel_left, c.lane_samples.ensures, c.bus_samples-lane_at.ensures, c.bus_counts-counts_at.ensures) at w.lane_formed.ensures) ∙ sym w.value-is ∙ c.if-lane_formed.false,
+          )
+          c.if-lane_formed.false
+      | else-strip-le-LAST_POSITION w ↦ rw (lt-leb _ _ w.if-strip-le-LAST_POSITION.false) c.if-lane_formed.false
+    ]
