@@ -1,7 +1,7 @@
 -- Demand 3 for C (specs/Promise.antt): the packed strip reads back as the strip that the call before gave, so that a list of calls through the library is answered as the strip's own. Assumes nothing.
 use mathlib.Core.Path.{◌≡◌, refl, sym, ap, ◌∙◌, subst}
 use Prim.Native.Nat.{ℕ, ◌+◌, ◌/◌, ◌%◌}
-use native.Mathlib.Omega.{arith}
+use Rattle.std.specs.Prelude.{Result, Ok, Err, ⊤}
 use mathlib.Core.Bool.{Bool, true, false, cond, true≢false}
 use mathlib.Core.List.{List, [], ◌∷◌, map}
 use lib.Dec.{leb, eqb}
@@ -19,67 +19,75 @@ use Rattle.strip.specs.declared.Setup.{Setup}
 use Rattle.strip.specs.declared.Controls.{Controls}
 use Rattle.strip.specs.declared.Lane.{Lane}
 use Rattle.strip.specs.declared.Strip as strips
-use Rattle.strip.specs.declared.Opened as opened
-use Rattle.strip.specs.declared.Opened.{Opened}
-use Rattle.strip.specs.declared.Outcome.{Outcome}
-use Rattle.strip.specs.declared.Outcome.TheVariants.{Now, Declined}
-use Rattle.strip.specs.declared.Rested as rested
-use Rattle.strip.specs.declared.Rested.{Rested}
-use Rattle.strip.specs.Refusals.{long_enough}
+use Rattle.strip.specs.declared.Refusal.{Refusal}
+use Rattle.strip.specs.declared.Refusal.TheVariants.{StoreShort, BadSetup, BadList, BadStrip, BadOutput, PastEnd, BadSample, BadControl}
+use Rattle.strip.specs.declared.Declined.{Declined}
+use Rattle.strip.specs.Refusals.{number_of}
 use Rattle.master.specs.Kept.{frames_out, counts_out}
 use Rattle.part.specs.Pieces.{went}
-use Rattle.strip.specs.Kept.{lane_step_on, State, state, step_on, ran_on, heard_on, opened_lane, opened_state, lane_latched_on, latched_strip, resting_on}
-use Rattle.strip.specs.Calls.{first_of, open_grounds, run_grounds, latch_grounds, first, OpenDone, RunDone, open_call, run_call, latch_call, rest_call}
+use Rattle.strip.specs.Kept.{lane_step_on, State, state, step_on, ran_on, heard_on, opened_lane, opened_state, lane_latched_on, latched_strip}
+use Rattle.strip.specs.Calls.{first_of, unless, declined_with, open_grounds, run_grounds, latch_grounds, first, OpenDone, RunDone, open_call, run_call, latch_call, rest_call}
 use Rattle.strip.specs.Machine.{fresh}
 use Rattle.strip.specs.Promise.{strip_of, run_answer, move_answer, rest_answer, answer_to, after, part_system, machine_system}
 use Rattle.strip.proofs.Joined.{rest_leaves, answered}
 use Rattle.strip.proofs.Demand3.{joined_of}
-use Rattle.packing.specs.declared.Unpacked as unpack
 use Rattle.packing.specs.Packing.{packed_numbers, packed_words, roomy, unpacked}
 use Rattle.packing.specs.Inverse.{Single, ToneSingle, PadSingle, Singles}
 use Rattle.packing.proofs.Inverse.{inverse, flag_is}
 use Rattle.setup.specs.Setup.{number_at, setup_of, tone_of, pad_of, tape_setup_of}
-use Rattle.goqhari.specs.Library.{Back, back, packed_back, opened_back, outcome_back, declined_by, Opening, opening, open_done, library_open, drumming, running, run_done, run_from, library_run, latch_from, library_latch, rested_back, rest_from, library_rest}
+use Rattle.goqhari.specs.Library.{Back, back, packed_back, opened_back, outcome_back, declined_by, Opening, opening, open_done, library_open, drumming, running, run_done, run_from, library_run, latch_from, library_latch, lent_strip, rested_back, rest_from, library_rest}
 use Rattle.goqhari.specs.Promise.{LibraryCall, run, latch, rest, call_of, Lent, lent, run_says, latch_says, rest_says, answer_of, run_leaves, left_by, library_system, open_leaves, EveryLibraryList, LibraryJoinedAt, LibraryDemand3}
 
--- ---- what an outcome is: a refusal's number is not 0 and hands the strip back; else the setup is kept
+-- ---- what an answer is: a refusal hands the strip back, and its number is not 0; else the setup is kept
 
-abbrev Tells : strips.Strip → Outcome → Type 0
-Tells s (Now t) = t.lane.setup ≡ s.lane.setup
-Tells s (Declined k t) = (eqb k 0 ≡ false) × (t ≡ s)
+abbrev Tells : strips.Strip → Result strips.Strip Declined → Type 0
+Tells s (Ok t) = t.lane.setup ≡ s.lane.setup
+Tells s (Err d) = d.strip ≡ s
+
+not_nought : (k : Refusal) → eqb (number_of k) 0 ≡ false
+not_nought StoreShort = refl
+not_nought BadSetup = refl
+not_nought BadList = refl
+not_nought BadStrip = refl
+not_nought BadOutput = refl
+not_nought PastEnd = refl
+not_nought BadSample = refl
+not_nought BadControl = refl
+
+no_zero : (k : Refusal) → number_of k ≡ 0 → ⊥
+no_zero k e = true≢false (sym (eq-eqb (number_of k) 0 e) ∙ not_nought k)
 
 setup_kept : (r : Rate) (d : Bool) (n : ℕ) (st : State) (xs : List Float) → (ran (step_on r d) n st xs).strip.lane.setup ≡ st.strip.lane.setup
 unfolding ran step_on lane_step_on
 setup_kept r d n st [] = refl
 setup_kept r d n st (x ∷ xs) = setup_kept r d (n + 1) (step_on r d n st x).next xs
 
-run_either : (s : strips.Strip) (b : Bool) (x y : RunDone) → Tells s x.answer → (b ≡ false → Tells s y.answer) → Tells s (cond b x y).answer
-run_either s true x y h k = h
-run_either s false x y h k = k refl
+run_either : (s : strips.Strip) (q : Result ⊤ Refusal) (x : RunDone) (f : Refusal → RunDone) → Tells s x.answer → ((k : Refusal) → Tells s (f k).answer) → Tells s (unless q x f).answer
+run_either s (Ok t) x f h g = h
+run_either s (Err k) x f h g = g k
 
 run_tells : (r : Rate) (st : State) (xs : List Float) (d : Bool) (frames : List Float) (gains : List ℕ) → Tells st.strip (run_call r st xs d frames gains).answer
 unfolding run_call
 run_tells r st xs d frames gains =
-    let k = first r st (run_grounds st.strip.position xs (length frames) (length gains)) in
     let o = ran_on r d st xs in
     let h = heard_on r d st xs in
-    run_either st.strip (eqb k 0) (went (Now o.strip) o.store o.counts (frames_out h) (counts_out h)) (went (Declined k st.strip) st.store st.counts frames gains)
-    (setup_kept r d st.strip.position st xs) (λ e. (e, refl))
+    run_either st.strip (first r st (run_grounds st.strip.position xs (length frames) (length gains)))
+    (went (Ok o.strip) o.store o.counts (frames_out h) (counts_out h))
+    (λ k. went (Err (declined_with k st.strip)) st.store st.counts frames gains)
+    (setup_kept r d st.strip.position st xs) (λ k. refl)
 
-latch_either : (s : strips.Strip) (b : Bool) (x y : Outcome) → Tells s x → (b ≡ false → Tells s y) → Tells s (cond b x y)
-latch_either s true x y h k = h
-latch_either s false x y h k = k refl
+latch_either : (s : strips.Strip) (q : Result ⊤ Refusal) (x : Result strips.Strip Declined) (f : Refusal → Result strips.Strip Declined) → Tells s x → ((k : Refusal) → Tells s (f k)) → Tells s (unless q x f)
+latch_either s (Ok t) x f h g = h
+latch_either s (Err k) x f h g = g k
 
 latch_tells : (r : Rate) (st : State) (c : Controls) → Tells st.strip (latch_call r st c)
 unfolding latch_call latched_strip lane_latched_on
-latch_tells r st c =
-    let k = first r st (latch_grounds c) in
-    latch_either st.strip (eqb k 0) (Now (latched_strip st.strip c)) (Declined k st.strip) refl (λ e. (e, refl))
+latch_tells r st c = latch_either st.strip (first r st (latch_grounds c)) (Ok (latched_strip st.strip c)) (λ k. Err (declined_with k st.strip)) refl (λ k. refl)
 
 -- ---- the memory holds the strip
 
 pub record Holds (m : Lent) (st : State) : Type 0 where
-  pub strip : unpacked m.numbers m.words ≡ unpack.TheVariants.Strip st.strip
+  pub strip : unpacked m.numbers m.words ≡ Ok st.strip
   pub singles : Singles st.strip.lane
   pub store : m.store ≡ st.store
   pub counts : m.counts ≡ st.counts
@@ -94,75 +102,63 @@ singles_of s t e h =
     }
 
 -- what is written back is read again
-written_back : (s : strips.Strip) → Singles s.lane → (ns : List Float) (ws : List ℕ) → unpacked (packed_back s ns ws).numbers (packed_back s ns ws).words ≡ unpack.TheVariants.Strip s
+written_back : (s : strips.Strip) → Singles s.lane → (ns : List Float) (ws : List ℕ) → unpacked (packed_back s ns ws).numbers (packed_back s ns ws).words ≡ Ok s
 unfolding packed_back
 written_back s h ns ws = inverse.back s h (drop (length (packed_numbers s)) ns) (drop (length (packed_words s)) ws)
 
-module _ (s : strips.Strip) (h : Singles s.lane) (ns : List Float) (ws : List ℕ) (e : unpacked ns ws ≡ unpack.TheVariants.Strip s) where
-  outcome_read : (o : Outcome) → Tells s o → unpacked (outcome_back o ns ws).numbers (outcome_back o ns ws).words ≡ unpack.TheVariants.Strip (strip_of o)
+module _ (s : strips.Strip) (h : Singles s.lane) (ns : List Float) (ws : List ℕ) (e : unpacked ns ws ≡ Ok s) where
+  outcome_read : (o : Result strips.Strip Declined) → Tells s o → unpacked (outcome_back o ns ws).numbers (outcome_back o ns ws).words ≡ Ok (strip_of o)
   unfolding outcome_back
-  outcome_read (Now t) k = written_back t (singles_of s.lane t.lane k h) ns ws
-  outcome_read (Declined n t) k = e ∙ ap unpack.TheVariants.Strip (sym k.1)
+  outcome_read (Ok t) k = written_back t (singles_of s.lane t.lane k h) ns ws
+  outcome_read (Err d) k = e ∙ ap (λ (t : strips.Strip). Ok t) (sym k)
 
-  outcome_singles : (o : Outcome) → Tells s o → Singles (strip_of o).lane
-  outcome_singles (Now t) k = singles_of s.lane t.lane k h
-  outcome_singles (Declined n t) k = singles_of s.lane t.lane (ap (λ (u : strips.Strip). u.lane.setup) k.1) h
+  outcome_singles : (o : Result strips.Strip Declined) → Tells s o → Singles (strip_of o).lane
+  outcome_singles (Ok t) k = singles_of s.lane t.lane k h
+  outcome_singles (Err d) k = singles_of s.lane d.strip.lane (ap (λ (u : strips.Strip). u.lane.setup) k) h
 
 -- ---- what an answer says
 
-run_said : (s : strips.Strip) (o : RunDone) (ns : List Float) (ws : List ℕ) → Tells s o.answer → run_says (run_done o ns ws) ≡ run_answer o.answer o.frames o.gains
+run_said : (o : RunDone) (ns : List Float) (ws : List ℕ) → run_says (run_done o ns ws) ≡ run_answer o.answer o.frames o.gains
 unfolding run_says run_done outcome_back packed_back
-run_said s o ns ws k = go o.answer k
+run_said o ns ws = go o.answer
   where
-    go : (a : Outcome) → Tells s a → run_says (running (outcome_back a ns ws) o.store o.counts o.frames o.gains) ≡ run_answer a o.frames o.gains
-    go (Now t) k = refl
-    go (Declined n t) k = rw k.0
+    go : (a : Result strips.Strip Declined) → run_says (running (outcome_back a ns ws) o.store o.counts o.frames o.gains) ≡ run_answer a o.frames o.gains
+    go (Ok t) = refl
+    go (Err d) = rw (not_nought d.refusal)
 
-latch_said : (s : strips.Strip) (o : Outcome) (ns : List Float) (ws : List ℕ) → Tells s o → latch_says (outcome_back o ns ws) ≡ move_answer o
+latch_said : (o : Result strips.Strip Declined) (ns : List Float) (ws : List ℕ) → latch_says (outcome_back o ns ws) ≡ move_answer o
 unfolding latch_says outcome_back packed_back
-latch_said s (Now t) ns ws k = refl
-latch_said s (Declined n t) ns ws k = rw k.0
+latch_said (Ok t) ns ws = refl
+latch_said (Err d) ns ws = rw (not_nought d.refusal)
 
-abbrev Refuses : Rested → Type 0
-Refuses (rested.TheVariants.Rests b) = Unit {0}
-Refuses (rested.TheVariants.Declined k s) = eqb k 0 ≡ false
-
-rest_either : (b : Bool) (x y : Rested) → Refuses x → (b ≡ false → Refuses y) → Refuses (cond b x y)
-rest_either true x y h k = h
-rest_either false x y h k = k refl
-
-rest_refuses : (r : Rate) (st : State) → Refuses (rest_call r st)
-unfolding rest_call
-rest_refuses r st = let k = first r st [] in rest_either (eqb k 0) (rested.TheVariants.Rests (resting_on r st)) (rested.TheVariants.Declined k st.strip) tt (λ e. e)
-
-rest_said : (a : Rested) → Refuses a → (was : ℕ) → rest_says (rested_back a (was ∷ [])) ≡ rest_answer a
+rest_said : (a : Result Bool Declined) (was : ℕ) → rest_says (rested_back a (was ∷ [])) ≡ rest_answer a
 unfolding rest_says rested_back
-rest_said (rested.TheVariants.Rests b) k was = rw (flag_is b)
-rest_said (rested.TheVariants.Declined n s) k was = rw k
+rest_said (Ok b) was = rw (flag_is b)
+rest_said (Err d) was = rw (not_nought d.refusal)
 
 -- ---- one call
 
 module _ (r : Rate) (m : Lent) (st : State) (h : Holds m st) where
   library_run_lem : (xs : List Float) (drums : ℕ) (frames : List Float) (gains : List ℕ)
       → library_run r m.numbers m.words xs drums m.store m.counts frames gains ≡ run_done (run_call r st xs (drumming drums) frames gains) m.numbers m.words
-  unfolding library_run run_from
+  unfolding library_run run_from lent_strip
   library_run_lem xs drums frames gains = rw h.strip (rw h.store (rw h.counts))
 
   library_latch_lem : (c : Controls) → library_latch r m.numbers m.words c m.store m.counts ≡ outcome_back (latch_call r st c) m.numbers m.words
-  unfolding library_latch latch_from
+  unfolding library_latch latch_from lent_strip
   library_latch_lem c = rw h.strip (rw h.store (rw h.counts))
 
   library_rest_lem : (was : ℕ) → library_rest r m.numbers m.words (was ∷ []) m.store m.counts ≡ rested_back (rest_call r st) (was ∷ [])
-  unfolding library_rest rest_from
+  unfolding library_rest rest_from lent_strip
   library_rest_lem was = rw h.strip (rw h.store (rw h.counts))
 
   answer_is : (c : LibraryCall) → answer_of r m c ≡ answer_to r st (call_of c)
   unfolding answer_of answer_to
   answer_is (run xs drums frames gains) =
       let d = drumming drums in
-      ap run_says (library_run_lem xs drums frames gains) ∙ run_said st.strip (run_call r st xs d frames gains) m.numbers m.words (run_tells r st xs d frames gains)
-  answer_is (latch c) = ap latch_says (library_latch_lem c) ∙ latch_said st.strip (latch_call r st c) m.numbers m.words (latch_tells r st c)
-  answer_is (rest was) = ap rest_says (library_rest_lem was) ∙ rest_said (rest_call r st) (rest_refuses r st) was
+      ap run_says (library_run_lem xs drums frames gains) ∙ run_said (run_call r st xs d frames gains) m.numbers m.words
+  answer_is (latch c) = ap latch_says (library_latch_lem c) ∙ latch_said (latch_call r st c) m.numbers m.words
+  answer_is (rest was) = ap rest_says (library_rest_lem was) ∙ rest_said (rest_call r st) was
 
   left_holds : (c : LibraryCall) → Holds (left_by r m c) (after r st (call_of c))
   unfolding left_by after run_done
@@ -223,54 +219,46 @@ setup_singles singles doubles flags f s e =
 -- an accepted open: the strip, its setup, and the memory
 pub record Opens (r : Rate) (s : Setup) (l : Lists) (ns : List Float) (ws : List ℕ) (store : List Float) (counts : List ℕ) (o : Opening) : Type 0 where
   pub strip : strips.Strip
-  pub answer : (open_call r s l store counts).answer ≡ opened.TheVariants.Strip strip
+  pub answer : (open_call r s l store counts).answer ≡ Ok strip
   pub setup : strip.lane.setup ≡ s
   pub memory : open_leaves o ≡ lent (packed_back strip ns ws).numbers (packed_back strip ns ws).words (open_call r s l store counts).store (open_call r s l store counts).counts
 
-abbrev Gives : Setup → Opened → Type 0
-Gives s (opened.TheVariants.Strip t) = t.lane.setup ≡ s
-Gives s (opened.TheVariants.Refused k) = eqb k 0 ≡ false
+abbrev Gives : Setup → Result strips.Strip Refusal → Type 0
+Gives s (Ok t) = t.lane.setup ≡ s
+Gives s (Err k) = ⊤
 
-open_either : (s : Setup) (b : Bool) (x y : OpenDone) → Gives s x.answer → (b ≡ false → Gives s y.answer) → Gives s (cond b x y).answer
-open_either s true x y h k = h
-open_either s false x y h k = k refl
+open_either : (s : Setup) (q : Result ⊤ Refusal) (x : OpenDone) (f : Refusal → OpenDone) → Gives s x.answer → ((k : Refusal) → Gives s (f k).answer) → Gives s (unless q x f).answer
+open_either s (Ok t) x f h g = h
+open_either s (Err k) x f h g = g k
 
 open_gives : (r : Rate) (s : Setup) (l : Lists) (store : List Float) (counts : List ℕ) → Gives s (open_call r s l store counts).answer
 unfolding open_call opened_state opened_lane
 open_gives r s l store counts =
-    let k = first_of (open_grounds r s l store counts) in
     let o = opened_state r s l store counts in
-    open_either s (eqb k 0)
-    (record { answer = opened.TheVariants.Strip o.strip; store = o.store; counts = o.counts })
-    (record { answer = opened.TheVariants.Refused k; store = store; counts = counts })
-    refl (λ e. e)
-
-no_zero : (k : ℕ) → eqb k 0 ≡ false → k ≡ 0 → ⊥
-no_zero k e z = true≢false (sym (eq-eqb k 0 z) ∙ e)
+    open_either s (first_of (open_grounds r s l store counts))
+    (record { answer = Ok o.strip; store = o.store; counts = o.counts })
+    (λ k. record { answer = Err k; store = store; counts = counts })
+    refl (λ k. tt)
 
 module _ (r : Rate) (s : Setup) (l : Lists) (ns : List Float) (ws : List ℕ) (store : List Float) (counts : List ℕ) where
-  open_opens : (o : OpenDone) → o ≡ open_call r s l store counts → (a : Opened) → o.answer ≡ a → Gives s a → (opened_back a ns ws).answer ≡ 0 → Opens r s l ns ws store counts (open_done o ns ws)
+  open_opens : (o : OpenDone) → o ≡ open_call r s l store counts → (a : Result strips.Strip Refusal) → o.answer ≡ a → Gives s a → (opened_back a ns ws).answer ≡ 0 → Opens r s l ns ws store counts (open_done o ns ws)
   unfolding opened_back open_done
-  open_opens o e (opened.TheVariants.Strip t) f g z =
+  open_opens o e (Ok t) f g z =
       record {
         strip = t;
         answer = ap (λ (q : OpenDone). q.answer) (sym e) ∙ f;
         setup = g;
         memory = rw f (rw e);
       }
-  open_opens o e (opened.TheVariants.Refused k) f g z = absurd (no_zero k g z)
-
-  declined_not : (b : Bool) → ◌≡◌ {A = ℕ} (cond b 2 1) 0 → ⊥
-  declined_not true z = omega arith
-  declined_not false z = omega arith
+  open_opens o e (Err k) f g z = absurd (no_zero k z)
 
   opens_by : (a b : Bool)
-      → (cond a (cond b (open_done (open_call r s l store counts) ns ws) (opening (back (declined_by r 2 store counts) ns ws) store counts)) (opening (back 1 ns ws) store counts)).back.answer ≡ 0
-      → Opens r s l ns ws store counts (cond a (cond b (open_done (open_call r s l store counts) ns ws) (opening (back (declined_by r 2 store counts) ns ws) store counts)) (opening (back 1 ns ws) store counts))
-  unfolding open_done declined_by
+      → (cond a (cond b (open_done (open_call r s l store counts) ns ws) (opening (back (number_of (declined_by r BadSetup store counts)) ns ws) store counts)) (opening (back (number_of StoreShort) ns ws) store counts)).back.answer ≡ 0
+      → Opens r s l ns ws store counts (cond a (cond b (open_done (open_call r s l store counts) ns ws) (opening (back (number_of (declined_by r BadSetup store counts)) ns ws) store counts)) (opening (back (number_of StoreShort) ns ws) store counts))
+  unfolding open_done
   opens_by true true z = open_opens (open_call r s l store counts) refl (open_call r s l store counts).answer refl (open_gives r s l store counts) z
-  opens_by true false z = absurd (declined_not (long_enough r store counts) z)
-  opens_by false b z = let y : ◌≡◌ {A = ℕ} 1 0 = z in absurd (omega (arith, y))
+  opens_by true false z = absurd (no_zero (declined_by r BadSetup store counts) z)
+  opens_by false b z = absurd (no_zero StoreShort z)
 
 pub library_answers : (r : Rate) → RateUsable r → EveryLibraryList r (λ s l cs answers. answers ≡ through (machine_system r) (fresh r s l) cs)
 unfolding library_open

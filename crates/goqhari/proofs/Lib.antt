@@ -1,4 +1,4 @@
--- How each call ends; a list of calls.
-pub mod Ends
+-- A strip that was read; a list of calls.
+pub mod Lent
 pub mod Joined
 pub mod SheetValue

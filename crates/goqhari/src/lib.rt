@@ -3,70 +3,81 @@
 // Uses part for the calls, packing for the strip, refusals for 1, setup for the setup.
 #![tactic(auto)]
 
-ghost use Rattle.std.specs.Prelude.{◌≡◌, ◌≤◌, length};
+ghost use Rattle.std.specs.Prelude.{◌≡◌};
 ghost use Rattle.rate.specs.Rate.{rate_of};
 ghost use Rattle.strip.specs.Kept.{lists_of};
-ghost use Rattle.packing.specs.Packing.{numbers_long, words_long};
-ghost use Rattle.goqhari.specs.Library.{back, packed_back, opened_back, outcome_back, declined_by, opening, library_open, drumming, running, library_run, controls, library_latch, resting, rested_back, library_rest};
+ghost use Rattle.goqhari.specs.Library.{number, lent_strip, back, declined_by, opening, library_open, running, library_run, controls, library_latch, resting, library_rest};
 
-use packing::Unpacked;
+use packing::UnpackError;
 use rate::Rate;
-use strip::{Controls, Opened, Outcome, Rested, Strip};
+use strip::{Controls, Refusal, Strip};
 
-// ---- answers
+// 0, or the refusal's number.
+fn number(answer: Result<(), Refusal>) -> u64
+    ensures { result ≡ number answer }
+{
+    match answer {
+        Ok(()) => 0,
+        Err(refusal) => u64::from(refusal),
+    }
+}
 
-// The number, or 1 where a store is too short.
-fn declined(number: u64, store: &[f64], counts: &[u64]) -> u64
-    ensures { result ≡ declined_by (rate_of 44100) number store.now counts.now }
+// A refusal that 1 comes before.
+#[tactic(auto, unfolding(crate::specs::Library::declined_by))]
+fn declined(refusal: Refusal, store: &[f64], counts: &[u64]) -> Refusal
+    ensures { result ≡ declined_by (rate_of 44100) refusal store.now counts.now }
 {
     if refusals::long_enough(Rate::cd(), store, counts) {
-        return number;
-    }
-    1
-}
-
-// Writes the strip over the packed one, and answers 0.
-fn kept(strip: Strip, numbers: &mut [f64], words: &mut [u64]) -> u64
-    requires { (numbers_long ≤ length numbers.old) × (words_long ≤ length words.old) }
-    ensures { back result numbers.new words.new ≡ packed_back strip numbers.old words.old }
-{
-    packing::pack(strip, numbers, words);
-    0
-}
-
-fn answered(outcome: Outcome, numbers: &mut [f64], words: &mut [u64]) -> u64
-    requires { (numbers_long ≤ length numbers.old) × (words_long ≤ length words.old) }
-    ensures { back result numbers.new words.new ≡ outcome_back outcome numbers.old words.old }
-{
-    match outcome {
-        Outcome::Now(strip) => kept(strip, numbers, words),
-        Outcome::Declined(number, _) => number,
+        refusal
+    } else {
+        Refusal::StoreShort
     }
 }
 
-fn opened(answer: Opened, numbers: &mut [f64], words: &mut [u64]) -> u64
-    requires { (numbers_long ≤ length numbers.old) × (words_long ≤ length words.old) }
-    ensures { back result numbers.new words.new ≡ opened_back answer numbers.old words.old }
+// The packed strip that a caller lends.
+#[tactic(auto, unfolding(crate::specs::Library::lent_strip))]
+fn lent_strip(
+    numbers: &[f64],
+    words: &[u64],
+    store: &[f64],
+    counts: &[u64],
+) -> Result<Strip, Refusal>
+    ensures { result ≡ lent_strip (rate_of 44100) numbers.now words.now store.now counts.now }
 {
-    match answer {
-        Opened::Strip(strip) => kept(strip, numbers, words),
-        Opened::Refused(number) => number,
-    }
-}
-
-fn told(answer: Rested, rests: &mut [u64; 1]) -> u64
-    ensures { resting result rests.new ≡ rested_back answer rests.old }
-{
-    match answer {
-        Rested::Rests(rest) => {
-            rests[0] = packing::flagged(rest);
-            0
-        }
-        Rested::Declined(number, _) => number,
-    }
+    packing::unpack(numbers, words).map_err(|error| match error {
+        UnpackError::Short => Refusal::StoreShort,
+        UnpackError::Malformed => declined(Refusal::BadStrip, store, counts),
+    })
 }
 
 // ---- open
+
+#[tactic(auto, unfolding(crate::specs::Library::library_open, crate::specs::Library::open_done, crate::specs::Library::opened_back, crate::specs::Library::packed_back))]
+fn open(
+    singles: &[f32; 8],
+    doubles: &[f64; 4],
+    flags: u64,
+    positions: &[u64],
+    values: &[f64],
+    kicks: &[u64],
+    numbers: &mut [f64],
+    words: &mut [u64],
+    store: &mut [f64],
+    counts: &mut [u64],
+) -> Result<(), Refusal>
+    ensures { opening (back (number result) numbers.new words.new) store.new counts.new ≡ library_open (rate_of 44100) singles.now doubles.now flags (lists_of positions.now values.now kicks.now) numbers.old words.old store.old counts.old }
+{
+    if !packing::roomy(numbers, words) {
+        return Err(Refusal::StoreShort);
+    }
+    if 15 < flags {
+        return Err(declined(Refusal::BadSetup, store, counts));
+    }
+    let setup = setup::setup_of(singles, doubles, flags);
+    let strip = part::open(setup, positions, values, kicks, store, counts)?;
+    packing::pack(strip, numbers, words);
+    Ok(())
+}
 
 pub fn goqhari_open(
     singles: &[f32; 8],
@@ -82,26 +93,30 @@ pub fn goqhari_open(
 ) -> u64
     ensures { opening (back result numbers.new words.new) store.new counts.new ≡ library_open (rate_of 44100) singles.now doubles.now flags (lists_of positions.now values.now kicks.now) numbers.old words.old store.old counts.old }
 {
-    if !packing::roomy(numbers, words) {
-        return 1;
-    }
-    if 15 < flags {
-        return declined(2, store, counts);
-    }
-    let setup = setup::setup_of(singles, doubles, flags);
-    let answer = part::open(setup, positions, values, kicks, store, counts);
-    opened(answer, numbers, words)
+    number(open(
+        singles, doubles, flags, positions, values, kicks, numbers, words, store, counts,
+    ))
 }
 
 // ---- run
 
-fn drums_on(drums: u64) -> bool
-    ensures { result ≡ drumming drums }
+#[tactic(auto, unfolding(crate::specs::Library::library_run, crate::specs::Library::run_from, crate::specs::Library::run_done, crate::specs::Library::drumming, crate::specs::Library::outcome_back, crate::specs::Library::packed_back))]
+fn run(
+    numbers: &mut [f64],
+    words: &mut [u64],
+    samples: &[f64],
+    drums: u64,
+    frames: &mut [f32],
+    gains: &mut [u64],
+    store: &mut [f64],
+    counts: &mut [u64],
+) -> Result<(), Refusal>
+    ensures { running (back (number result) numbers.new words.new) store.new counts.new frames.new gains.new ≡ library_run (rate_of 44100) numbers.old words.old samples.now drums store.old counts.old frames.old gains.old }
 {
-    if drums == 0 {
-        return false;
-    }
-    true
+    let strip = lent_strip(numbers, words, store, counts)?;
+    let next = part::run(strip, samples, drums != 0, frames, gains, store, counts)?;
+    packing::pack(next, numbers, words);
+    Ok(())
 }
 
 pub fn goqhari_run(
@@ -116,18 +131,26 @@ pub fn goqhari_run(
 ) -> u64
     ensures { running (back result numbers.new words.new) store.new counts.new frames.new gains.new ≡ library_run (rate_of 44100) numbers.old words.old samples.now drums store.old counts.old frames.old gains.old }
 {
-    match packing::unpack(numbers, words) {
-        Unpacked::Short => 1,
-        Unpacked::Not => declined(4, store, counts),
-        Unpacked::Strip(strip) => {
-            let on = drums_on(drums);
-            let outcome = part::run(strip, samples, on, frames, gains, store, counts);
-            answered(outcome, numbers, words)
-        }
-    }
+    number(run(numbers, words, samples, drums, frames, gains, store, counts))
 }
 
 // ---- latch
+
+#[tactic(auto, unfolding(crate::specs::Library::library_latch, crate::specs::Library::latch_from, crate::specs::Library::outcome_back, crate::specs::Library::packed_back))]
+fn latch(
+    numbers: &mut [f64],
+    words: &mut [u64],
+    controls: Controls,
+    store: &[f64],
+    counts: &[u64],
+) -> Result<(), Refusal>
+    ensures { back (number result) numbers.new words.new ≡ library_latch (rate_of 44100) numbers.old words.old controls store.now counts.now }
+{
+    let strip = lent_strip(numbers, words, store, counts)?;
+    let next = part::latch(strip, controls, store, counts)?;
+    packing::pack(next, numbers, words);
+    Ok(())
+}
 
 pub fn goqhari_latch(
     numbers: &mut [f64],
@@ -147,17 +170,26 @@ pub fn goqhari_latch(
         rain,
         darkening,
     };
-    match packing::unpack(numbers, words) {
-        Unpacked::Short => 1,
-        Unpacked::Not => declined(4, store, counts),
-        Unpacked::Strip(strip) => {
-            let outcome = part::latch(strip, controls, store, counts);
-            answered(outcome, numbers, words)
-        }
-    }
+    number(latch(numbers, words, controls, store, counts))
 }
 
 // ---- rest
+
+#[tactic(auto, unfolding(crate::specs::Library::library_rest, crate::specs::Library::rest_from, crate::specs::Library::rested_back))]
+fn rest(
+    numbers: &[f64],
+    words: &[u64],
+    rests: &mut [u64; 1],
+    store: &[f64],
+    counts: &[u64],
+) -> Result<(), Refusal>
+    ensures { resting (number result) rests.new ≡ library_rest (rate_of 44100) numbers.now words.now rests.old store.now counts.now }
+{
+    let strip = lent_strip(numbers, words, store, counts)?;
+    let answer = part::rest(strip, store, counts)?;
+    rests[0] = u64::from(answer);
+    Ok(())
+}
 
 pub fn goqhari_rest(
     numbers: &[f64],
@@ -168,12 +200,5 @@ pub fn goqhari_rest(
 ) -> u64
     ensures { resting result rests.new ≡ library_rest (rate_of 44100) numbers.now words.now rests.old store.now counts.now }
 {
-    match packing::unpack(numbers, words) {
-        Unpacked::Short => 1,
-        Unpacked::Not => declined(4, store, counts),
-        Unpacked::Strip(strip) => {
-            let answer = part::rest(strip, store, counts);
-            told(answer, rests)
-        }
-    }
+    number(rest(numbers, words, rests, store, counts))
 }

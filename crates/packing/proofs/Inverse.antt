@@ -17,7 +17,7 @@ use Rattle.ramp.specs.declared.Ramp.{Ramp}
 use Rattle.automation.specs.declared.Tone.{Tone}
 use Rattle.automation.specs.declared.Tone.TheVariants.{Fixed, Graded}
 use Rattle.oscillators.specs.declared.Pad.{Pad}
-use Rattle.std.specs.Prelude.{Option, None, Some}
+use Rattle.std.specs.Prelude.{Option, None, Some, Ok}
 use Rattle.tape.specs.declared.Equalizer.{Equalizer}
 use Rattle.tape.specs.declared.Tape.{Tape}
 use Rattle.tape.specs.declared.TapeSetup.{TapeSetup}
@@ -25,7 +25,6 @@ use Rattle.setup.specs.Setup.{number_at}
 use Rattle.strip.specs.declared.Lane.{Lane}
 use Rattle.strip.specs.declared.Bus.{Bus}
 use Rattle.strip.specs.declared.Strip.{Strip}
-use Rattle.packing.specs.declared.Unpacked as unpack
 use Rattle.packing.specs.Packing.{flagged, flag_of, shape_tag, shape_of, one_pole_numbers, one_pole_from, section_numbers, section_from, lowpass_numbers, lowpass_from, ramp_numbers, ramp_words, ramp_from, both_short, tone_numbers, tone_tag, tone_from, tone_fits, pad_numbers, pad_tag, pad_from, pad_fits, setup_from, setup_fits, equalizer_numbers, equalizer_from, tape_numbers, tape_words, duck_from, tape_from, lane_numbers_long, lane_numbers, lane_words, lane_from, lane_fits, plate_from, bus_numbers, bus_words, bus_from, numbers_long, words_long, packed_numbers, packed_words, roomy, unpackable, strip_from, unpacked}
 use Rattle.packing.specs.Inverse.{ToneSingle, PadSingle, Singles, Inverse}
 use Rattle.packing.proofs.Floats.{narrowed_own, short_is}
@@ -169,7 +168,7 @@ module _ (s : Strip) (h : Singles s.lane) (ns : List Float) (ws : List ℕ) wher
       rw (le-leb numbers_long (length (packed_numbers s ++ ns)) (omega (arith, l, m, lane_long s.lane)))
       (rw (le-leb words_long (length (packed_words s ++ ws)) (rw length-append (omega arith))))
 
-  packed_back_lem : unpacked (packed_numbers s ++ ns) (packed_words s ++ ws) ≡ unpack.TheVariants.Strip s
+  packed_back_lem : unpacked (packed_numbers s ++ ns) (packed_words s ++ ws) ≡ Ok s
   unfolding unpacked
   packed_back_lem = rw (has_room, all_fit, strip_is)
 

@@ -1,5 +1,5 @@
 -- What was packed is read back, part by part, whatever stands behind a part's numbers and words. Proved as `inverse` (proofs/Inverse.antt).
-use Rattle.std.specs.Prelude.{◌≡◌, ℕ, List, ◌++◌, T, Option, None, Some, Float}
+use Rattle.std.specs.Prelude.{◌≡◌, ℕ, List, ◌++◌, T, Option, None, Some, Float, Ok}
 use Rattle.std.specs.Float.{binary32}
 use Rattle.std.specs.Float.Ieee.{fits}
 use Rattle.onepole.specs.declared.OnePole.{OnePole}
@@ -11,7 +11,6 @@ use Rattle.oscillators.specs.declared.Pad.{Pad}
 use Rattle.strip.specs.declared.Lane.{Lane}
 use Rattle.strip.specs.declared.Bus.{Bus}
 use Rattle.strip.specs.declared.Strip.{Strip}
-use Rattle.packing.specs.declared.Unpacked as unpack
 use Rattle.packing.specs.Packing.{one_pole_numbers, one_pole_from, section_numbers, section_from, ramp_numbers, ramp_words, ramp_from, lane_numbers, lane_words, lane_from, bus_numbers, bus_words, bus_from, packed_numbers, packed_words, unpacked}
 
 -- what the code's types say: a field of type f32 holds an f32
@@ -38,4 +37,4 @@ pub record Inverse : Type 0 where
   pub ramp : (r : Ramp) (ns : List Float) (ws : List ℕ) → ramp_from (ramp_numbers r ++ ns) (ramp_words r ++ ws) ≡ r
   pub lane : (k : Lane) → Singles k → (ns : List Float) (ws : List ℕ) → lane_from (lane_numbers k ++ ns) (lane_words k ++ ws) ≡ k
   pub bus : (b : Bus) (ns : List Float) (ws : List ℕ) → bus_from (bus_numbers b ++ ns) (bus_words b ++ ws) ≡ b
-  pub back : (s : Strip) → Singles s.lane → (ns : List Float) (ws : List ℕ) → unpacked (packed_numbers s ++ ns) (packed_words s ++ ws) ≡ unpack.TheVariants.Strip s
+  pub back : (s : Strip) → Singles s.lane → (ns : List Float) (ws : List ℕ) → unpacked (packed_numbers s ++ ns) (packed_words s ++ ws) ≡ Ok s

@@ -1,6 +1,6 @@
 -- A strip as 87 numbers (f64) and 19 words (u64), part by part: each part has its own places, counted from its own start, and is read from a list that starts there.
 -- An f32 stands among the numbers as the f64 of its value. A tag or a bool is 0 or 1; a number that its tag leaves out is packed as 0, and is not looked at when it is read back. Definitions only.
-use Rattle.std.specs.Prelude.{◌≡◌, ℕ, ◌+◌, Bool, true, false, cond, not, ◌&&◌, List, [], ◌∷◌, ◌++◌, leb, eqb, length, get_or, drop, Option, None, Some, Float}
+use Rattle.std.specs.Prelude.{◌≡◌, ℕ, ◌+◌, Bool, true, false, cond, not, ◌&&◌, List, [], ◌∷◌, ◌++◌, leb, eqb, length, get_or, drop, Option, None, Some, Float, Result, Ok, Err}
 use Rattle.std.specs.Float.{binary64}
 use Rattle.std.specs.Float.Ieee.{to_bits}
 use Rattle.casts.specs.Arithmetic.{nought}
@@ -23,8 +23,8 @@ use Rattle.strip.specs.declared.Setup.{Setup}
 use Rattle.strip.specs.declared.Lane.{Lane}
 use Rattle.strip.specs.declared.Bus.{Bus}
 use Rattle.strip.specs.declared.Strip as strips
-use Rattle.packing.specs.declared.Unpacked as unpack
-use Rattle.packing.specs.declared.Unpacked.{Unpacked}
+use Rattle.packing.specs.declared.UnpackError.{UnpackError}
+use Rattle.packing.specs.declared.UnpackError.TheVariants.{Short, Malformed}
 
 abbrev pub word_at : List ℕ → ℕ → ℕ
 word_at ws k = get_or ws k 0
@@ -355,5 +355,5 @@ unpackable ns ws = lane_fits (drop bus_numbers_long ns) (drop lane_words_at ws)
 unfoldable pub strip_from : List Float → List ℕ → strips.Strip
 strip_from ns ws = record { position = word_at ws 0; lane = lane_from (drop bus_numbers_long ns) (drop lane_words_at ws); bus = bus_from ns (drop own_words_long ws) }
 
-unfoldable pub unpacked : List Float → List ℕ → Unpacked
-unpacked ns ws = cond (roomy ns ws) (cond (unpackable ns ws) (unpack.TheVariants.Strip (strip_from ns ws)) unpack.TheVariants.Not) unpack.TheVariants.Short
+unfoldable pub unpacked : List Float → List ℕ → Result strips.Strip UnpackError
+unpacked ns ws = cond (roomy ns ws) (cond (unpackable ns ws) (Ok (strip_from ns ws)) (Err Malformed)) (Err Short)

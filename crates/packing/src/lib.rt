@@ -80,12 +80,11 @@ const LANE_WORDS_AT: usize = OWN_WORDS + BUS_WORDS;
 
 const WORDS: usize = LANE_WORDS_AT + LANE_WORDS;
 
-// A strip; no strip, where a tag, a bool or an f32 is none; or too few numbers or words.
-#[derive(Clone, Copy)]
-pub enum Unpacked {
-    Strip(Strip),
-    Not,
+// Why numbers and words are no packed strip: too few of them, or a tag, a bool or an f32 that is none.
+#[derive(Clone, Copy, PartialEq, Eq)]
+pub enum UnpackError {
     Short,
+    Malformed,
 }
 
 // ---- tags, bools and counts as words, and back
@@ -732,15 +731,14 @@ fn strip_from(numbers: &[f64], words: &[u64]) -> Strip
     }
 }
 
-pub fn unpack(numbers: &[f64], words: &[u64]) -> Unpacked
+pub fn unpack(numbers: &[f64], words: &[u64]) -> Result<Strip, UnpackError>
     ensures { result ≡ unpacked numbers.now words.now }
 {
     if !roomy(numbers, words) {
-        return Unpacked::Short;
+        return Err(UnpackError::Short);
     }
     if !unpackable(numbers, words) {
-        return Unpacked::Not;
+        return Err(UnpackError::Malformed);
     }
-    let strip = strip_from(numbers, words);
-    Unpacked::Strip(strip)
+    Ok(strip_from(numbers, words))
 }

@@ -14,9 +14,9 @@ pub returns-then-not-unpackable : goal.returns-then-not-unpackable
 unfolding unpacked
 returns-then-not-unpackable c = rw (sym c.roomy.ensures ∙ c.if-not-roomy.false, sym c.unpackable.ensures ∙ c.if-not-unpackable.true)
 
-pub strip_from-strip-requires : goal.strip_from-strip-requires
-strip_from-strip-requires c = room _ _ (sym c.roomy.ensures ∙ c.if-not-roomy.false)
+pub strip_from-requires : goal.strip_from-requires
+strip_from-requires c = room _ _ (sym c.roomy.ensures ∙ c.if-not-roomy.false)
 
 pub returns : goal.returns
 unfolding unpacked
-returns c = rw (sym c.roomy.ensures ∙ c.if-not-roomy.false, sym c.unpackable.ensures ∙ c.if-not-unpackable.false, c.strip_from-strip.ensures)
+returns c = rw (sym c.roomy.ensures ∙ c.if-not-roomy.false, sym c.unpackable.ensures ∙ c.if-not-unpackable.false, c.strip_from.ensures)
