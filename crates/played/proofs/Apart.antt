@@ -1,9 +1,9 @@
 -- The one-sample machine's lane and bus apart, each computed in stretches of a list of calls: together they answer as strip's `machine`. Assumes nothing.
 use mathlib.Core.Path.{◌≡◌, refl, sym, ap, ◌∙◌}
-use mathlib.Core.Bool.{Bool, true, false, cond, ◌&&◌}
+use mathlib.Core.Bool.{Bool, ◌&&◌}
 use Prim.Native.Nat.{ℕ, ◌+◌}
 use mathlib.Core.List.{List, [], ◌∷◌, ◌++◌, append_assoc}
-use lib.Dec.{eqb}
+use Rattle.std.specs.Prelude.{Result, Ok, Err, ⊤}
 use Rattle.stage.specs.Stage.{Step}
 use Rattle.stage.specs.System.{through}
 use Rattle.rate.specs.declared.Rate.{Rate}
@@ -11,6 +11,9 @@ use Rattle.tape.specs.Tape.{Lists}
 use Rattle.master.specs.declared.Heard.{Heard}
 use Rattle.master.specs.Kept.{frames_out, counts_out}
 use Rattle.strip.specs.declared.Setup.{Setup}
+use Rattle.strip.specs.declared.Refusal.{Refusal}
+use Rattle.strip.specs.Refusals.{number_of}
+use Rattle.strip.specs.Calls.{unless}
 use Rattle.strip.specs.Machine.{LaneMachine, BusMachine, Machine, fresh_lane, fresh_bus, fresh, Sent, lane_step, bus_step, stepped, lane_latched, latched, lane_resting, bus_resting, resting, Event, sample, latch, fed, fed_all, delivers, heard_from, sends, sent_from}
 use Rattle.strip.specs.Promise.{Call, run, move, ask, Answer, ran, moved, rests, declined, refusal, events_of, feeds, accepted, says, machine_system}
 
@@ -69,7 +72,7 @@ unfoldable pub lane_takes : Rate → At LaneMachine → Call → Step (At LaneMa
 lane_takes r a c = let o = rolled (lane_fed r) a (events_of c) in record { next = o.next; out = told a c o.out ∷ [] }
 
 unfoldable pub lane_call : Rate → At LaneMachine → Call → Step (At LaneMachine) (List Dry)
-lane_call r a c = cond (eqb (refusal a.position c) 0) (lane_takes r a c) (record { next = a; out = refuses (refusal a.position c) ∷ [] })
+lane_call r a c = unless (refusal a.position c) (lane_takes r a c) (λ k. record { next = a; out = refuses (number_of k) ∷ [] })
 
 -- ---- the bus
 
@@ -137,18 +140,18 @@ module _ (r : Rate) where
     next : fed_all r (both a b) (feeds a.position c) ≡ both (lane_call r a c).next (behind a b c).next.stands
     position : (behind a b c).next.position ≡ (lane_call r a c).next.position
 
-  by_refusal : (a : At LaneMachine) (b : BusMachine) (c : Call) (k : Bool) → eqb (refusal a.position c) 0 ≡ k → Same a b c
+  by_refusal : (a : At LaneMachine) (b : BusMachine) (c : Call) (q : Result ⊤ Refusal) → refusal a.position c ≡ q → Same a b c
   unfolding says feeds accepted events_of fed_all resting rolled lane_fed lane_call lane_takes told bus_call
-  by_refusal a b (run xs d frames gains) true e = let es = events_of (run xs d frames gains) in record { answer = rw (e, heard_apart es a b); next = rw e (fed_apart es a b); position = rw e (same_position es a b) }
-  by_refusal a b (move c) true e = record { answer = rw e; next = rw e (fed_apart (latch c ∷ []) a b); position = rw e }
-  by_refusal a b ask true e = record { answer = rw e; next = rw e; position = rw e }
-  by_refusal a b c false e = record { answer = rw e; next = rw e; position = rw e }
+  by_refusal a b (run xs d frames gains) (Ok t) e = let es = events_of (run xs d frames gains) in record { answer = rw (e, heard_apart es a b); next = rw e (fed_apart es a b); position = rw e (same_position es a b) }
+  by_refusal a b (move c) (Ok t) e = record { answer = rw e; next = rw e (fed_apart (latch c ∷ []) a b); position = rw e }
+  by_refusal a b ask (Ok t) e = record { answer = rw e; next = rw e; position = rw e }
+  by_refusal a b c (Err k) e = record { answer = rw e; next = rw e; position = rw e }
 
   apart : (cs : List Call) (a : At LaneMachine) (b : BusMachine) → through (machine_system r) (both a b) cs ≡ (rolled (bus_call r) (at a.position b) (rolled (lane_call r) a cs).out).out
   unfolding through rolled
   apart [] a b = refl
   apart (c ∷ cs) a b =
-      let o = by_refusal a b c (eqb (refusal a.position c) 0) refl in
+      let o = by_refusal a b c (refusal a.position c) refl in
       let m = both a b in
       let f = lane_call r a c in
       let w = (behind a b c).next in
