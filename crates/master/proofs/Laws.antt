@@ -1,7 +1,10 @@
 -- The definitions' cases, as the code comes to them. Assumes nothing.
 use Rattle.std.proofs.Common.{◌≡◌, ℕ, zero, suc, ◌-◌, ◌<◌, ◌≤◌, Bool, true, false, sym, refl, ap, ◌∙◌, arith}
-use lib.Ieee.{Float, lt}
+use Rattle.std.proofs.Common.{◌*◌, T}
+use lib.Ieee.{Float, nan, inf, fin, up, down, lt, le, neg}
 use Rattle.casts.specs.Arithmetic.{nought, size_of}
+use Rattle.casts.specs.Order.{says_le}
+use Rattle.rate.specs.Ceiling.{plain}
 use Rattle.master.specs.Kept.{count_down}
 
 -- ---- the size
@@ -29,3 +32,11 @@ pub count_down_same : (t u : ℕ → Bool) (k : ℕ) → ((j : ℕ) → j < k �
 unfolding count_down
 count_down_same t u zero h = refl
 count_down_same t u (suc k) h = rw (h k (omega arith), count_down_same t u k (λ j g. h j (omega arith)))
+
+-- ---- the clamp's two ends
+pub minus_below : (x : Float) → T (plain x) → T (le (neg x) x)
+unfolding le neg
+minus_below nan p = absurd p
+minus_below (inf s) p = absurd p
+minus_below (fin true m e) p = absurd p
+minus_below (fin false m e) p = says_le true (m * up e * down e) false (m * up e * down e) tt

@@ -11,7 +11,7 @@ ghost use Rattle.casts.specs.Cast.{narrowed};
 ghost use Rattle.casts.specs.Least.{min_f};
 ghost use Rattle.casts.specs.Step.{step_of};
 ghost use Rattle.stage.specs.Stage.{ran, outs};
-ghost use Rattle.rate.specs.Ceiling.{Usable, unit};
+ghost use Rattle.rate.specs.Ceiling.{Usable, plain, unit};
 ghost use Rattle.rate.specs.Stores.{ceiling_samples};
 ghost use Rattle.ranges.specs.Ranges.{last_position};
 ghost use Rattle.master.specs.Ceiling.{larger_of, need_of, gain_of, multiplied, clamped, delivered};
@@ -46,6 +46,7 @@ pub struct Turn {
 
 // ---- a frame's need
 
+// A size, with -0 left as it is: std's `abs` clears its sign, by one test more.
 #[tactic(auto, unfolding(casts::specs::Arithmetic::size_of))]
 fn size(x: f64) -> f64
     ensures { result ≡ size_of x }
@@ -53,7 +54,7 @@ fn size(x: f64) -> f64
     if x < 0.0 { -x } else { x }
 }
 
-// The larger of two sizes, a NaN one ignored.
+// The larger of two sizes, a NaN one ignored. Of 0 and -0 it is a: std's `max` leaves that open.
 #[tactic(auto, unfolding(crate::specs::Ceiling::larger_of))]
 fn larger(a: f64, b: f64) -> f64
     ensures { result ≡ larger_of a b }
@@ -82,6 +83,7 @@ fn wrapped(i: usize, places: usize) -> usize
 }
 
 // How many of the queue's needs stay before a new one: those at its back that the new one undercuts or equals go.
+#[tactic(auto, using(crate::proofs::Laws::down_one, crate::proofs::Laws::down_stop, crate::proofs::Laws::down_none))]
 fn pops(ring: &[f64], head: usize, len: usize, need: f64) -> usize
     requires short { length ring.now ≤ 65535 }
     requires head_lt_places { (head < length ring.now) × (len ≤ length ring.now) }
@@ -200,24 +202,18 @@ fn delay(rate: CeilingRate, n: u64, samples: &mut [f64], f: Frame) -> Frame
 }
 
 // x narrowed, and clamped to the limit.
-#[tactic(auto, unfolding(crate::specs::Ceiling::clamped))]
+#[tactic(auto, using(crate::proofs::Laws::minus_below), unfolding(crate::specs::Ceiling::clamped))]
 fn clamp(limit: f32, x: f64) -> f32
+    requires { T (plain limit) }
     ensures { result ≡ clamped limit (narrowed x) }
 {
-    let y = casts::narrow(x);
-    if y < -limit {
-        -limit
-    } else if limit < y {
-        limit
-    } else {
-        y
-    }
+    casts::narrow(x).clamp(-limit, limit)
 }
 
 // A late frame, played at the gain that a count comes to.
 #[tactic(auto, unfolding(crate::specs::Ceiling::delivered, crate::specs::Ceiling::multiplied))]
 fn play(rate: CeilingRate, count: u64, late: Frame) -> Heard
-    requires { rate.ahead < 65535 }
+    requires { Usable rate }
     ensures { result ≡ delivered rate (multiplied rate count late) }
 {
     let gain = gain(rate, count);
@@ -334,6 +330,7 @@ pub fn at_rest(rate: CeilingRate, samples: &[f64]) -> bool
 // ---- refusal 4
 
 // Whether each of the len needs queued from head on is from 0 to 1: those up to the ring's end, and those that lie from its beginning on.
+#[tactic(auto, using(crate::proofs::Checking::needs_low, crate::proofs::Checking::needs_around))]
 fn needs_in(ring: &[f64], head: usize, len: usize) -> bool
     requires short { length ring.now ≤ 65535 }
     requires head_lt_places { (head < length ring.now) × (len ≤ length ring.now) }
