@@ -1,6 +1,4 @@
 -- The laws of the plate's step, and the theorem: the part's step is the machine's.
-pub mod Room
-pub mod Calls
 pub mod Turns
 pub mod InputHeld
 pub mod HalfHeld

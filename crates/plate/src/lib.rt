@@ -61,6 +61,7 @@ pub struct PlateGave {
 }
 
 // The predelay and the four input lattices.
+#[tactic(auto, unfolding(crate::specs::Plate::input_on))]
 fn input(rate: InputRate, part: &mut [f64], x: f64, n: u64) -> f64
     requires input_usable { InputUsable rate }
     requires part_len { (length part.old ≡ rate.places) × (n < last_position) }
@@ -75,6 +76,7 @@ fn input(rate: InputRate, part: &mut [f64], x: f64, n: u64) -> f64
 
 // One half of the tank, first being what the line of its first lattice gives. That read stands apart, so that a half is small
 // enough for the compiler to write out for each side.
+#[tactic(auto, unfolding(crate::specs::Plate::half_from))]
 fn half(
     rate: HalfRate,
     decay: f64,
@@ -108,6 +110,7 @@ fn first_at(rate: HalfRate, part: &[f64], stretch: f64, n: u64) -> f64
 }
 
 // The sample leaving a half on this frame, before its pushes.
+#[tactic(auto, unfolding(crate::specs::Plate::leaving_on))]
 fn leaving(rate: HalfRate, part: &[f64], n: u64) -> f64
     requires half_usable { HalfUsable rate }
     requires part_len { length part.now ≡ rate.places }
@@ -117,6 +120,7 @@ fn leaving(rate: HalfRate, part: &[f64], n: u64) -> f64
 }
 
 // A side's taps of the other half and of its own, n samples being pushed.
+#[tactic(auto, unfolding(crate::specs::Plate::taps_on))]
 fn taps(t: Taps, other: HalfRate, own: HalfRate, there: &[f64], here: &[f64], n: u64) -> f64
     requires other_usable { HalfUsable other }
     requires own_usable { HalfUsable own }
@@ -135,6 +139,7 @@ fn taps(t: Taps, other: HalfRate, own: HalfRate, there: &[f64], here: &[f64], n:
 }
 
 // The LFO's angle at the frame n.
+#[tactic(auto, unfolding(crate::specs::Machine::turn_of))]
 fn turn(sr: u32, n: u64) -> f64
     ensures { result ≡ turn_of sr n }
 {
@@ -143,6 +148,7 @@ fn turn(sr: u32, n: u64) -> f64
 }
 
 // How far each half's first lattice stretches: a quadrature pair.
+#[tactic(auto, unfolding(crate::specs::Machine::stretch_of))]
 fn stretch(rate: PlateRate, n: u64) -> Frame
     ensures { result ≡ stretch_of rate n }
 {
@@ -201,6 +207,7 @@ fn lfo(rate: PlateRate, n: u64, count: usize) -> [Frame; 8]
 }
 
 // What each half is fed: the input, and what leaves the other.
+#[tactic(auto, unfolding(crate::specs::Plate::fed_on))]
 fn fed(rate: PlateRate, part: &[f64], x: f64, n: u64) -> Frame
     requires plate_usable { PlateUsable rate }
     requires part_len { length part.now ≡ rate.left.places + rate.right.places }
@@ -216,6 +223,7 @@ fn fed(rate: PlateRate, part: &[f64], x: f64, n: u64) -> Frame
 }
 
 // Both halves, each on its own places.
+#[tactic(auto, unfolding(crate::specs::Plate::halves_on, crate::specs::Plate::half_on))]
 fn halves(rate: PlateRate, tank: Tank, part: &mut [f64], fed: Frame, stretch: Frame, n: u64) -> Tank
     requires plate_usable { PlateUsable rate }
     requires part_len { (length part.old ≡ rate.left.places + rate.right.places) × (n < last_position) }
@@ -248,6 +256,7 @@ fn halves(rate: PlateRate, tank: Tank, part: &mut [f64], fed: Frame, stretch: Fr
 }
 
 // Both sides' taps, n samples being pushed.
+#[tactic(auto, unfolding(crate::specs::Plate::returned_on))]
 fn returned(rate: PlateRate, part: &[f64], n: u64) -> Frame
     requires plate_usable { PlateUsable rate }
     requires part_len { length part.now ≡ rate.left.places + rate.right.places }
@@ -261,6 +270,7 @@ fn returned(rate: PlateRate, part: &[f64], n: u64) -> Frame
 }
 
 // The tank's step: x comes from the input lattices.
+#[tactic(auto, unfolding(crate::specs::Plate::tank_on))]
 fn tank_step(
     rate: PlateRate,
     tank: Tank,
@@ -281,6 +291,7 @@ fn tank_step(
 }
 
 // One sample: x is what is sent, and n the samples before it.
+#[tactic(auto, unfolding(crate::specs::Plate::plate_step_on))]
 fn step(
     rate: PlateRate,
     plate: Plate,
@@ -366,6 +377,7 @@ pub fn block(
 
 impl Plate {
     // A plate whose filters' pasts are zero.
+    #[tactic(auto, unfolding(crate::specs::Plate::fresh_on))]
     pub fn new(rate: PlateRate) -> Plate
         ensures { result ≡ fresh_on rate }
     {
