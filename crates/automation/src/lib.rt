@@ -2,7 +2,7 @@
 // Uses casts, ranges, elementary and ramp.
 #![tactic(auto)]
 
-ghost use Rattle.std.specs.Prelude.{◌≡◌, ◌<◌, ◌≤◌, min, max, length};
+ghost use Rattle.std.specs.Prelude.{◌≡◌, ◌<◌, ◌≤◌, length};
 ghost use Rattle.automation.specs.Automation.{block_of, daylight_of, reached, segment, sweep_at, swept, corner_between, drive_between, tone_at, tuning_at};
 ghost use Rattle.automation.specs.Kept.{tie_end, lowest_to};
 ghost use Rattle.automation.specs.Pieces.{Reached, ramp_span, sweep_span, span, piece_at};
@@ -50,18 +50,6 @@ fn block_of(n: u64) -> u64
     n - n % COEFF_BLOCK
 }
 
-fn least(a: u64, b: u64) -> u64
-    ensures { result ≡ min a b }
-{
-    if a < b { a } else { b }
-}
-
-fn greatest(a: u64, b: u64) -> u64
-    ensures { result ≡ max a b }
-{
-    if a < b { b } else { a }
-}
-
 // ---- daylight
 
 // The daylight that the sample at n plays at.
@@ -71,7 +59,7 @@ pub fn daylight_at(r: Ramp, n: u64) -> f64
     if r.ended(n) {
         return r.to;
     }
-    r.at(greatest(block_of(n), r.start))
+    r.at(block_of(n).max(r.start))
 }
 
 // ---- the sweep
@@ -80,14 +68,10 @@ pub fn daylight_at(r: Ramp, n: u64) -> f64
 fn reached(positions: &[u64], n: u64) -> usize
     ensures { result ≡ reached positions.now n }
 {
-    let mut i = 0;
-    while i < positions.len() {
-        if n < positions[i] {
-            return i;
-        }
-        i += 1;
-    }
-    i
+    positions
+        .iter()
+        .position(|p| n < *p)
+        .unwrap_or(positions.len())
 }
 
 // Between the point at a and the next, at b.
@@ -95,7 +79,7 @@ fn segment(a: u64, xa: f64, b: u64, xb: f64, n: u64) -> f64
     requires { (a ≤ n) × (n < b) }
     ensures { result ≡ segment a xa b xb n }
 {
-    let m = greatest(block_of(n), a);
+    let m = block_of(n).max(a);
     xa + (xb - xa) * std::num::nearest_u64_to_f64(m - a) / std::num::nearest_u64_to_f64(b - a)
 }
 
@@ -104,14 +88,12 @@ fn tie_end(positions: &[u64], i: usize) -> usize
     requires { i < length positions.now }
     ensures { result ≡ tie_end positions.now i }
 {
-    let mut e = i + 1;
-    while e < positions.len() {
+    for e in i + 1..positions.len() {
         if positions[e] != positions[i] {
             return e;
         }
-        e += 1;
     }
-    e
+    positions.len()
 }
 
 // The lowest value of the tie that ends with the first e points.
@@ -120,13 +102,11 @@ fn lowest_to(positions: &[u64], values: &[f64], e: usize) -> f64
     requires e_in_bounds { (0 < e) × (e ≤ length positions.now) }
     ensures { result ≡ lowest_to positions.now values.now e }
 {
-    let mut i = e - 1;
-    let mut lowest = values[i];
-    while 0 < i {
-        if positions[i - 1] != positions[i] {
-            return lowest;
+    let mut lowest = values[e - 1];
+    for i in (0..e - 1).rev() {
+        if positions[i] != positions[i + 1] {
+            break;
         }
-        i -= 1;
         lowest = casts::lesser(values[i], lowest);
     }
     lowest
@@ -153,10 +133,7 @@ fn sweep_at(positions: &[u64], values: &[f64], i: usize, n: u64) -> f64
 pub fn swept(own: f32, x: f64) -> f32
     ensures { result ≡ swept own x }
 {
-    if x >= 1.0 {
-        return own;
-    }
-    if own <= FILTERED_HZ {
+    if x >= 1.0 || own <= FILTERED_HZ {
         return own;
     }
     if x <= 0.0 {
@@ -227,13 +204,13 @@ fn ramp_span(r: Ramp, n: u64) -> u64
     }
     let block = COEFF_BLOCK - n % COEFF_BLOCK;
     if r.start <= n {
-        return least(r.len - (n - r.start), block);
+        return (r.len - (n - r.start)).min(block);
     }
     let gap = r.start - n;
     if block <= gap {
         return block;
     }
-    gap + least(r.len, block - gap)
+    gap + r.len.min(block - gap)
 }
 
 // The same of the sweep, i being the points reached: it moves only between two points.
@@ -248,7 +225,7 @@ fn sweep_span(positions: &[u64], i: usize, n: u64) -> u64
     if i == 0 {
         return gap;
     }
-    least(gap, COEFF_BLOCK - n % COEFF_BLOCK)
+    gap.min(COEFF_BLOCK - n % COEFF_BLOCK)
 }
 
 // The same of the ramp and the sweep together.
@@ -256,7 +233,7 @@ fn span_from(daylight: Ramp, positions: &[u64], i: usize, n: u64) -> u64
     requires { Reached positions.now n i }
     ensures { result ≡ span daylight positions.now n }
 {
-    least(ramp_span(daylight, n), sweep_span(positions, i, n))
+    ramp_span(daylight, n).min(sweep_span(positions, i, n))
 }
 
 // The corner and the drive of the sample at n.

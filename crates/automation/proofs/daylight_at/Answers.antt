@@ -9,4 +9,4 @@ returns-then-ended c = rw (sym c.ended.ensures ∙ c.if-ended.true)
 
 pub returns : goal.returns
 unfolding daylight_of
-returns c = rw (sym c.ended.ensures ∙ c.if-ended.false, c.at.ensures, c.greatest.ensures, c.block_of.ensures)
+returns c = rw (sym c.ended.ensures ∙ c.if-ended.false, c.at.ensures, c.max.ensures, c.block_of.ensures)

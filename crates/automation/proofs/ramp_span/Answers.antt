@@ -18,7 +18,7 @@ unfolding ramp_span
 returns-then-r-n c =
     let e = sym c.ended.ensures ∙ c.if-ended.false in
     let f = leb-false (ramp_end c.args.r) c.args.n e in
-    rw e (omega (arith, c.least.ensures))
+    rw e (omega (arith, c.min.ensures))
 
 pub returns-then-block-gap : goal.returns-then-block-gap
 unfolding ramp_span
@@ -31,4 +31,4 @@ unfolding ramp_span
 returns c =
     let e = sym c.ended.ensures ∙ c.if-ended.false in
     let f = leb-false (ramp_end c.args.r) c.args.n e in
-    rw e (omega (arith, c.least-2.ensures))
+    rw e (omega (arith, c.min-2.ensures))

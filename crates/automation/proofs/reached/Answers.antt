@@ -1,16 +1,14 @@
--- `automation::reached` meets its contract. Those left are still to be counted. Assumes nothing.
-use Rattle.std.proofs.Common.{arith, rules}
-use Rattle.automation.proofs.Points.{one_more, no_more, none_left}
+-- `automation::reached` meets its contract. Assumes nothing.
+use Rattle.std.proofs.Common.{◌<◌, ◌≤◌, sym, ◌∙◌, refl, le-leb, add-one, rules, tests}
+use Rattle.std.proofs.lemmas.Bool.{lt-leb}
+use Rattle.std.proofs.lemmas.Iterator.{YieldsList-from_slice, IsFirst-from_position, index_from_first}
+use Rattle.automation.specs.Automation.{reached}
 use Rattle.automation.proofs.reached.Goals as goal
 
-pub loop-i-init : goal.loop-i-init
-loop-i-init c = (search rules, omega arith)
-
-pub returns-then-n-positions : goal.returns-then-n-positions
-returns-then-n-positions c = omega (arith, c.loop-i.invariant.1, no_more c.args.positions.now c.loop-i.i c.args.n c.loop-i-test.true c.if-n-positions.true)
-
-pub loop-i-preserved : goal.loop-i-preserved
-loop-i-preserved c = (search rules, omega (arith, c.loop-i.invariant.1, one_more c.args.positions.now c.loop-i.i c.args.n c.loop-i-test.true c.if-n-positions.false))
-
 pub returns : goal.returns
-returns c = omega (arith, c.loop-i.invariant.1, none_left c.args.positions.now c.loop-i.i c.args.n c.loop-i-test.false)
+unfolding reached
+returns c =
+    let n = c.args.n in
+    let ps = c.args.positions.now in
+    let first = IsFirst-from_position _ _ _ (λ p. n < p) (λ p. p ≤ n) c.position.ensures.ran (YieldsList-from_slice ps cc) (λ x q k. search (rules, tests)) (λ x q k. search (rules, tests)) in
+    c.unwrap_or.ensures ∙ sym (index_from_first (λ l. reached l n) (λ p. n < p) (λ p. p ≤ n) refl (λ p l h. rw (lt-leb p n h)) (λ p l h. rw (le-leb p n h, add-one (reached l n))) ps _ first)

@@ -4,4 +4,4 @@ use Rattle.automation.proofs.span_from.Goals as goal
 
 pub returns : goal.returns
 unfolding span
-returns c = rw (c.least.ensures, c.sweep_span.ensures, c.ramp_span.ensures)
+returns c = rw (c.min.ensures, c.sweep_span.ensures, c.ramp_span.ensures)

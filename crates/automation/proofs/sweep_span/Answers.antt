@@ -20,4 +20,4 @@ returns-then-i-eq0 c = rw (← c.requires.is, ne_eqb _ _ c.if-i-positions.false,
 
 pub returns : goal.returns
 unfolding sweep_span
-returns c = rw (← c.requires.is, ne_eqb _ _ c.if-i-positions.false, ne_eqb _ _ c.if-i-eq0.false) c.least.ensures
+returns c = rw (← c.requires.is, ne_eqb _ _ c.if-i-positions.false, ne_eqb _ _ c.if-i-eq0.false) c.min.ensures

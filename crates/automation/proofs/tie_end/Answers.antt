@@ -8,20 +8,20 @@ pub loop-e-init : goal.loop-e-init
 unfolding tie_end
 loop-e-init c =
     let ps = c.args.positions.now in
-    (search rules, search rules, omega (arith, one_tied ps c.args.i (get_or ps c.args.i 0) c.requires refl))
+    omega (arith, one_tied ps c.args.i (get_or ps c.args.i 0) c.requires refl)
 
 pub returns-then-positions-e : goal.returns-then-positions-e
 unfolding tie_end
 returns-then-positions-e c =
     let ps = c.args.positions.now in
-    omega (arith, c.loop-e.invariant.2, no_tied ps c.loop-e.e (get_or ps c.args.i 0) (search rules) (λ e. c.if-positions-e.true (sym e)))
+    omega (arith, c.loop-e.invariant, no_tied ps c.loop-e.e (get_or ps c.args.i 0) (search rules) (λ e. c.if-positions-e.true (sym e)))
 
 pub loop-e-preserved : goal.loop-e-preserved
 loop-e-preserved c =
     let ps = c.args.positions.now in
-    (search rules, search rules, omega (arith, c.loop-e.invariant.2, one_tied ps c.loop-e.e (get_or ps c.args.i 0) (search rules) (sym c.if-positions-e.false)))
+    omega (arith, c.loop-e.invariant, one_tied ps c.loop-e.e (get_or ps c.args.i 0) (search rules) (sym c.if-positions-e.false))
 
 pub returns : goal.returns
 returns c =
     let ps = c.args.positions.now in
-    omega (arith, c.loop-e.invariant.2, none_tied ps c.loop-e.e (get_or ps c.args.i 0) (search rules))
+    omega (arith, c.loop-e.invariant, none_tied ps c.loop-e.e (get_or ps c.args.i 0) (search rules))
