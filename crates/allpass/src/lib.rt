@@ -10,6 +10,7 @@ ghost use Rattle.allpass.specs.Allpass.{gave, stored_of, lattice_from_on, lattic
 use rate::LineRate;
 
 // What a line inside a loop takes: the Rust's flush(v) + kick, kick being 0. The sum changes no value, since flush gives no -0.
+#[tactic(auto, unfolding(crate::specs::Allpass::stored_of))]
 pub fn stored(v: f64) -> f64
     ensures { result ≡ stored_of v }
 {
@@ -17,6 +18,7 @@ pub fn stored(v: f64) -> f64
 }
 
 // A lattice of coefficient g whose line gives d.
+#[tactic(auto, unfolding(crate::specs::Allpass::lattice_from_on))]
 pub fn lattice_from(rate: LineRate, part: &mut [f64], g: f64, d: f64, x: f64, n: u64) -> f64
     requires { Lent rate part.old }
     ensures { gave part.new result ≡ lattice_from_on rate g d n part.old x }
@@ -27,6 +29,7 @@ pub fn lattice_from(rate: LineRate, part: &mut [f64], g: f64, d: f64, x: f64, n:
 }
 
 // A lattice at its own length.
+#[tactic(auto, unfolding(crate::specs::Allpass::lattice_on))]
 pub fn lattice(rate: LineRate, part: &mut [f64], g: f64, x: f64, n: u64) -> f64
     requires { Lent rate part.old }
     ensures { gave part.new result ≡ lattice_on rate g n part.old x }
@@ -36,6 +39,7 @@ pub fn lattice(rate: LineRate, part: &mut [f64], g: f64, x: f64, n: u64) -> f64
 }
 
 // What a lattice's line gives stretch frames beyond its length, between frames.
+#[tactic(auto, unfolding(crate::specs::Allpass::stretched_at))]
 pub fn stretched(rate: LineRate, part: &[f64], reach: f64, stretch: f64, n: u64) -> f64
     requires lent { Lent rate part.now }
     requires reach { Reach reach }
@@ -46,6 +50,7 @@ pub fn stretched(rate: LineRate, part: &[f64], reach: f64, stretch: f64, n: u64)
 }
 
 // A plain delay: pushed, then read at its length.
+#[tactic(auto, unfolding(crate::specs::Allpass::delay_on))]
 pub fn delayed(rate: LineRate, part: &mut [f64], x: f64, n: u64) -> f64
     requires lent { Lent rate part.old }
     requires n_lt_last_position { n < last_position }
