@@ -49,20 +49,7 @@ reached_same (p ∷ ps) n j h = elim (dec_le p n) [
       rw (lt-leb p n (omega arith), lt-leb p (n + j) s)
 ]
 
--- the loop's turn, and its ends
-pub one_more : (ps : List ℕ) (i n : ℕ) → i < length ps → get_or ps i 0 ≤ n → reached (drop i ps) n ≡ suc (reached (drop (i + 1) ps) n)
-unfolding reached
-one_more ps i n h k = rw (add-one i, drop-cons ps i 0 h, le-leb _ _ k)
-
-pub no_more : (ps : List ℕ) (i n : ℕ) → i < length ps → n < get_or ps i 0 → reached (drop i ps) n ≡ 0
-unfolding reached
-no_more ps i n h k = rw (drop-cons ps i 0 h, lt-leb _ _ k)
-
-pub none_left : (ps : List ℕ) (i n : ℕ) → length ps ≤ i → reached (drop i ps) n ≡ 0
-unfolding reached
-none_left ps i n h = rw (drop_of_length-le ps h)
-
--- the same of a tie
+-- a tie: the loop's turn, and its ends
 pub one_tied : (ps : List ℕ) (i p : ℕ) → i < length ps → p ≡ get_or ps i 0 → tied p (drop i ps) ≡ suc (tied p (drop (i + 1) ps))
 unfolding tied
 one_tied ps i p h k = rw (add-one i, drop-cons ps i 0 h, eq-eqb _ _ k)

@@ -104,9 +104,6 @@ module _ (count : ℕ) (u : List ℕ) (few : count ≤ most_kicks) (wide : duck_
   kicks_cons : (c : ℕ) → c < count → drop c (kicks_in count u) ≡ get_or u c 0 ∷ drop (c + 1) (kicks_in count u)
   kicks_cons c h = let k = kicks_length in rw (drop-cons (kicks_in count u) c 0 (omega arith), get_or-take count u c 0 h, add-one c)
 
-  marks_cons : (c : ℕ) → c < count → drop c (marks_in count u) ≡ is_mark (get_or u (most_kicks + c) 0) ∷ drop (c + 1) (marks_in count u)
-  marks_cons c h = let k = marks_length in rw (drop-cons (marks_in count u) c false (omega arith), marks_get c h, add-one c)
-
   kicks_over : (c : ℕ) → count ≤ c → drop c (kicks_in count u) ≡ []
   kicks_over c h = let k : length (kicks_in count u) ≤ c = rw kicks_length h in drop_of_length-le (kicks_in count u) k
 
