@@ -122,10 +122,8 @@ fn resting(rate: Rate, strip: Strip, store: &[f64], counts: &[u64]) -> bool
     requires sized { Sized rate store.now counts.now }
     ensures { result ≡ resting_on rate (state strip store.now counts.now) }
 {
-    let lane_at = places::bus_samples(rate);
-    let lane_end = lane_at + places::lane_samples(rate);
-    lane_resting(rate, strip.lane, &store[lane_at..lane_end])
-        && bus_resting(rate, strip.bus, &store[0..lane_at])
+    lane_resting(rate, strip.lane, &store[places::lane_part(rate).samples])
+        && bus_resting(rate, strip.bus, &store[places::bus_part(rate).samples])
 }
 
 #[tactic(auto, unfolding(strip::specs::Calls::rest_call))]

@@ -216,18 +216,21 @@ fn formed(rate: Rate, strip: Strip, store: &[f64], counts: &[u64]) -> bool
     requires sized { Sized rate store.now counts.now }
     ensures { result ≡ formed rate (state strip store.now counts.now) }
 {
-    let lane_at = places::bus_samples(rate);
-    let counts_at = places::bus_counts(rate);
-    let lane_end = lane_at + places::lane_samples(rate);
-    let counts_end = counts_at + places::LANE_COUNTS;
+    let lane_part = places::lane_part(rate);
+    let bus_part = places::bus_part(rate);
     strip.position <= ranges::LAST_POSITION
         && lane_formed(
             rate,
             strip.lane,
-            &store[lane_at..lane_end],
-            &counts[counts_at..counts_end],
+            &store[lane_part.samples],
+            &counts[lane_part.counts],
         )
-        && bus_formed(rate, strip.bus, &store[..lane_at], &counts[..counts_at])
+        && bus_formed(
+            rate,
+            strip.bus,
+            &store[bus_part.samples],
+            &counts[bus_part.counts],
+        )
 }
 
 // 1 and 4. The rate is made here, so that its numbers are constants to the compiler.

@@ -1,7 +1,7 @@
 -- `formed` meets its contract. Assumes nothing.
 use mathlib.Core.Bool.{true≢false}
 use mathlib.Core.Path.{sym, ◌∙◌}
-use native.Mathlib.Nat.{add-sub_cancel_left}
+use native.Mathlib.Nat.{add-sub_cancel_left, sub-zero}
 use Rattle.strip.specs.Kept.{formed}
 use borrow.Author.Tests.{le-leb, lt-leb}
 use Rattle.refusals.proofs.formed.Goals as goal
@@ -14,9 +14,9 @@ returns-then-lane_formed c =
       | then-strip-le-LAST_POSITION w ↦
           rw (
             le-leb _ _ w.if-strip-le-LAST_POSITION.true,
-            sym (simp (add-sub_cancel_left, c.lane_samples.ensures, c.bus_samples-lane_at.ensures, c.bus_counts-counts_at.ensures) at w.lane_formed.ensures) ∙ sym w.value-is ∙ c.if-lane_formed.true,
+            sym (simp (add-sub_cancel_left, c.lane_part-lane_part.ensures) at w.lane_formed.ensures) ∙ sym w.value-is ∙ c.if-lane_formed.true,
           )
-          (simp (c.bus_samples-lane_at.ensures, c.bus_counts-counts_at.ensures) at c.bus_formed.ensures)
+          (simp (sub-zero, c.bus_part-bus_part.ensures) at c.bus_formed.ensures)
       | else-strip-le-LAST_POSITION w ↦ absurd (true≢false (sym c.if-lane_formed.true ∙ w.value-is ∙ lt-leb _ _ w.if-strip-le-LAST_POSITION.false))
     ]
 
@@ -27,7 +27,7 @@ returns-else-lane_formed c =
       | then-strip-le-LAST_POSITION w ↦
           rw (
             le-leb _ _ w.if-strip-le-LAST_POSITION.true,
-            sym (simp (add-sub_cancel_left, c.lane_samples.ensures, c.bus_samples-lane_at.ensures, c.bus_counts-counts_at.ensures) at w.lane_formed.ensures) ∙ sym w.value-is ∙ c.if-lane_formed.false,
+            sym (simp (add-sub_cancel_left, c.lane_part-lane_part.ensures) at w.lane_formed.ensures) ∙ sym w.value-is ∙ c.if-lane_formed.false,
           )
           c.if-lane_formed.false
       | else-strip-le-LAST_POSITION w ↦ rw (lt-leb _ _ w.if-strip-le-LAST_POSITION.false) c.if-lane_formed.false
