@@ -1,4 +1,4 @@
--- What stands from a place on, and the room that a strip which was read back has. Assumes nothing.
+-- What a list lends from a place on, and the room that a strip which was read back has. Assumes nothing.
 use mathlib.Core.Path.{◌≡◌, refl, sym, ap, ◌∙◌}
 use native.Mathlib.Omega.{arith}
 use mathlib.Core.Bool.{Bool, true, false, cond, and-eq-true_iff}
@@ -12,12 +12,10 @@ use Rattle.strip.specs.declared.Strip.{Strip}
 use Rattle.std.specs.Prelude.{Result, Ok, Err}
 use Rattle.packing.specs.declared.UnpackError.{UnpackError}
 use Rattle.packing.specs.declared.UnpackError.TheVariants.{Short, Malformed}
-use Rattle.packing.specs.Packing.{Behind, numbers_long, words_long, roomy, unpackable, strip_from, unpacked}
+use Rattle.packing.specs.Packing.{numbers_long, words_long, roomy, unpackable, strip_from, unpacked}
 
-pub behind : {X : Type 0} (k : ℕ) (l : List X) → k ≤ length l → Behind k l (take (length l - k) (drop k l))
-behind {X} k l h =
-    let e : take (length l - k) (drop k l) ≡ drop k l = ap (λ (n : ℕ). take n (drop k l)) (sym (length-drop k l)) ∙ take-length (drop k l) in
-    record { is = e; long = rw (e, length-drop) (omega arith) }
+pub behind : {X : Type 0} (k : ℕ) (l : List X) → take (length l - k) (drop k l) ≡ drop k l
+behind k l = ap (λ (n : ℕ). take n (drop k l)) (sym (length-drop k l)) ∙ take-length (drop k l)
 
 no_strip : {s : Strip} → ◌≡◌ {A = Result Strip UnpackError} (Err Short) (Ok s) → ⊥
 no_strip e = cc

@@ -1,6 +1,6 @@
 -- A strip as 87 numbers (f64) and 19 words (u64), part by part: each part has its own places, counted from its own start, and is read from a list that starts there.
 -- An f32 stands among the numbers as the f64 of its value. A tag or a bool is 0 or 1; a number that its tag leaves out is packed as 0, and is not looked at when it is read back. Definitions only.
-use Rattle.std.specs.Prelude.{◌≡◌, ℕ, ◌+◌, Bool, true, false, cond, not, ◌&&◌, List, [], ◌∷◌, ◌++◌, leb, eqb, length, get_or, drop, Option, None, Some, Float, Result, Ok, Err}
+use Rattle.std.specs.Prelude.{ℕ, ◌+◌, Bool, true, false, cond, not, ◌&&◌, List, [], ◌∷◌, ◌++◌, leb, eqb, length, get_or, drop, Option, None, Some, Float, Result, Ok, Err}
 use Rattle.std.specs.Float.{binary64}
 use Rattle.std.specs.Float.Ieee.{to_bits}
 use Rattle.casts.specs.Arithmetic.{nought}
@@ -28,11 +28,6 @@ use Rattle.packing.specs.declared.UnpackError.TheVariants.{Short, Malformed}
 
 abbrev pub word_at : List ℕ → ℕ → ℕ
 word_at ws k = get_or ws k 0
-
--- what stands in a list from a place on
-pub record Behind {X : Type 0} (k : ℕ) (all rest : List X) : Type 0 where
-  pub is : rest ≡ drop k all
-  pub long : length rest + k ≡ length all
 
 -- ---- a bool and a ramp's shape: a word
 

@@ -6,7 +6,7 @@
 ghost use Rattle.std.specs.Prelude.{◌≡◌, ◌&&◌, [], ◌∷◌, ◌≤◌, length};
 ghost use Rattle.stage.specs.Stage.{over};
 ghost use Rattle.setup.specs.Setup.{number_at};
-ghost use Rattle.packing.specs.Packing.{Behind, flagged, flag_of, shape_tag, shape_of, one_pole_long, one_pole_from, section_long, section_from, lowpass_long, lowpass_from, ramp_numbers_long, ramp_words_long, ramp_from, ramp_fits, is_short, both_short, tone_long, tone_numbers, tone_tag, tone_from, tone_fits, pad_long, pad_numbers, pad_tag, pad_from, pad_fits, setup_numbers_long, setup_words_long, setup_from, flags_fit, setup_fits, equalizer_long, equalizer_from, tape_numbers_long, tape_words_long, duck_from, tape_from, lane_numbers_long, lane_words_long, lane_numbers, lane_words, lane_from, lane_fits, bus_numbers_long, bus_words_long, plate_from, bus_numbers, bus_words, bus_from, numbers_long, words_long, packed_numbers, packed_words, roomy, unpackable, strip_from, unpacked};
+ghost use Rattle.packing.specs.Packing.{flagged, shape_tag, shape_of, one_pole_long, one_pole_from, section_long, section_from, lowpass_long, lowpass_from, ramp_numbers_long, ramp_words_long, ramp_from, ramp_fits, is_short, both_short, tone_long, tone_numbers, tone_tag, tone_from, tone_fits, pad_long, pad_numbers, pad_tag, pad_from, pad_fits, setup_numbers_long, setup_words_long, setup_from, flags_fit, setup_fits, equalizer_long, equalizer_from, tape_numbers_long, tape_words_long, duck_from, tape_from, lane_numbers_long, lane_words_long, lane_numbers, lane_words, lane_from, lane_fits, bus_numbers_long, bus_words_long, plate_from, bus_numbers, bus_words, bus_from, numbers_long, words_long, packed_numbers, packed_words, roomy, unpackable, strip_from, unpacked};
 
 use automation::Tone;
 use biquad::{Lowpass, Section};
@@ -93,38 +93,7 @@ pub enum UnpackError {
 pub fn flagged(flag: bool) -> u64
     ensures { result ≡ flagged flag }
 {
-    if flag {
-        return 1;
-    }
-    0
-}
-
-fn flag_of(w: u64) -> bool
-    ensures { result ≡ flag_of w }
-{
-    w != 0
-}
-
-// Both are looked at: of a packed strip every test holds.
-fn both(a: bool, b: bool) -> bool
-    ensures { result ≡ a && b }
-{
-    if a {
-        return b;
-    }
-    false
-}
-
-fn word_of(n: usize) -> u64
-    ensures { result ≡ n }
-{
-    n as u64
-}
-
-fn size_of(w: u64) -> usize
-    ensures { result ≡ w }
-{
-    w as usize
+    u64::from(flag)
 }
 
 fn shape_tag(shape: Shape) -> u64
@@ -136,29 +105,11 @@ fn shape_tag(shape: Shape) -> u64
     }
 }
 
+#[tactic(auto, unfolding(crate::specs::Packing::shape_of))]
 fn shape_of(tag: u64) -> Shape
     ensures { result ≡ shape_of tag }
 {
-    if tag == 0 {
-        return Shape::Linear;
-    }
-    Shape::Db
-}
-
-// ---- what stands from a place on
-
-fn numbers_from(numbers: &[f64], k: usize) -> &[f64]
-    requires { k ≤ length numbers.now }
-    ensures { Behind k numbers.now result.now }
-{
-    &numbers[k..]
-}
-
-fn words_from(words: &[u64], k: usize) -> &[u64]
-    requires { k ≤ length words.now }
-    ensures { Behind k words.now result.now }
-{
-    &words[k..]
+    if tag == 0 { Shape::Linear } else { Shape::Db }
 }
 
 // ---- a one-pole, a section, two sections, and a ramp
@@ -190,15 +141,17 @@ fn section_from(numbers: &[f64]) -> Section
     }
 }
 
+#[tactic(auto, unfolding(crate::specs::Packing::lowpass_from))]
 fn lowpass_from(numbers: &[f64]) -> Lowpass
     requires { lowpass_long ≤ length numbers.now }
     ensures { result ≡ lowpass_from numbers.now }
 {
     let first = section_from(numbers);
-    let second = section_from(numbers_from(numbers, SECTION));
+    let second = section_from(&numbers[SECTION..]);
     Lowpass { first, second }
 }
 
+#[tactic(auto, unfolding(crate::specs::Packing::ramp_from))]
 fn ramp_from(numbers: &[f64], words: &[u64]) -> Ramp
     requires { (ramp_numbers_long ≤ length numbers.now) × (ramp_words_long ≤ length words.now) }
     ensures { result ≡ ramp_from numbers.now words.now }
@@ -222,6 +175,7 @@ fn ramp_fits(words: &[u64]) -> bool
 
 // ---- a tone and a pad
 
+#[tactic(auto, unfolding(crate::specs::Packing::tone_numbers))]
 fn tone_numbers(tone: Tone) -> [f64; TONE]
     ensures { tone_numbers tone ≡ number_at result 0 ∷ number_at result 1 ∷ number_at result 2 ∷ number_at result 3 ∷ [] }
 {
@@ -245,38 +199,33 @@ fn tone_tag(tone: Tone) -> u64
     ensures { result ≡ tone_tag tone }
 {
     match tone {
-        Tone::Fixed {
-            corner: _,
-            drive: _,
-        } => 0,
-        Tone::Graded {
-            night_corner: _,
-            day_corner: _,
-            night_drive: _,
-            day_drive: _,
-        } => 1,
+        Tone::Fixed { .. } => 0,
+        Tone::Graded { .. } => 1,
     }
 }
 
+#[tactic(auto, unfolding(crate::specs::Packing::tone_from))]
 fn tone_from(numbers: &[f64], tag: u64) -> Tone
     requires { tone_long ≤ length numbers.now }
     ensures { result ≡ tone_from numbers.now tag }
 {
     let corner = casts::narrow(numbers[0]);
     if tag == 0 {
-        return Tone::Fixed {
+        Tone::Fixed {
             corner,
             drive: numbers[1],
-        };
-    }
-    Tone::Graded {
-        night_corner: corner,
-        day_corner: casts::narrow(numbers[1]),
-        night_drive: casts::narrow(numbers[2]),
-        day_drive: casts::narrow(numbers[3]),
+        }
+    } else {
+        Tone::Graded {
+            night_corner: corner,
+            day_corner: casts::narrow(numbers[1]),
+            night_drive: casts::narrow(numbers[2]),
+            day_drive: casts::narrow(numbers[3]),
+        }
     }
 }
 
+#[tactic(auto, unfolding(crate::specs::Packing::pad_numbers))]
 fn pad_numbers(pad: Option<Pad>) -> [f64; PAD]
     ensures { pad_numbers pad ≡ number_at result 0 ∷ number_at result 1 ∷ [] }
 {
@@ -292,17 +241,16 @@ fn pad_tag(pad: Option<Pad>) -> u64
     u64::from(pad.is_some())
 }
 
+#[tactic(auto, unfolding(crate::specs::Packing::pad_from))]
 fn pad_from(numbers: &[f64], tag: u64) -> Option<Pad>
     requires { pad_long ≤ length numbers.now }
     ensures { result ≡ pad_from numbers.now tag }
 {
-    if tag == 0 {
-        return None;
-    }
-    Some(Pad {
+    let swell = Pad {
         hz: casts::narrow(numbers[0]),
         depth: casts::narrow(numbers[1]),
-    })
+    };
+    (tag != 0).then_some(swell)
 }
 
 // ---- which numbers are an f32's
@@ -314,64 +262,62 @@ fn is_short(x: f64) -> bool
     let bits = casts::bits_of_f64(x);
     if bits % 536870912 == 0 {
         let field = bits / 4503599627370496 % 2048;
-        if 897 <= field {
-            if field < 1151 {
-                return true;
-            }
+        if 897 <= field && field < 1151 {
+            return true;
         }
     }
     let y = casts::widen(casts::narrow(x));
     casts::bits_of_f64(y) == bits
 }
 
+#[tactic(auto, unfolding(crate::specs::Packing::both_short))]
 fn both_short(numbers: &[f64]) -> bool
     requires { 2 ≤ length numbers.now }
     ensures { result ≡ both_short numbers.now }
 {
-    both(is_short(numbers[0]), is_short(numbers[1]))
+    is_short(numbers[0]) && is_short(numbers[1])
 }
 
+#[tactic(auto, unfolding(crate::specs::Packing::tone_fits))]
 fn tone_fits(numbers: &[f64], tag: u64) -> bool
     requires { tone_long ≤ length numbers.now }
     ensures { result ≡ tone_fits numbers.now tag }
 {
-    if tag == 0 {
-        return is_short(numbers[0]);
+    match tag {
+        0 => is_short(numbers[0]),
+        1 => both_short(numbers) && both_short(&numbers[2..]),
+        _ => false,
     }
-    if tag == 1 {
-        return both(both_short(numbers), both_short(numbers_from(numbers, 2)));
-    }
-    false
 }
 
+#[tactic(auto, unfolding(crate::specs::Packing::pad_fits))]
 fn pad_fits(numbers: &[f64], tag: u64) -> bool
     requires { pad_long ≤ length numbers.now }
     ensures { result ≡ pad_fits numbers.now tag }
 {
-    if tag == 0 {
-        return true;
+    match tag {
+        0 => true,
+        1 => both_short(numbers),
+        _ => false,
     }
-    if tag == 1 {
-        return both_short(numbers);
-    }
-    false
 }
 
 // ---- a setup
 
+#[tactic(auto, unfolding(crate::specs::Packing::setup_from))]
 fn setup_from(numbers: &[f64], words: &[u64]) -> Setup
     requires { (setup_numbers_long ≤ length numbers.now) × (setup_words_long ≤ length words.now) }
     ensures { result ≡ setup_from numbers.now words.now }
 {
     let tone = tone_from(numbers, words[0]);
-    let pad = pad_from(numbers_from(numbers, TONE), words[1]);
+    let pad = pad_from(&numbers[TONE..], words[1]);
     let tape = TapeSetup {
         tone,
         pad,
-        darkened: flag_of(words[2]),
+        darkened: words[2] != 0,
         input: numbers[6],
         output: numbers[7],
-        ducked: flag_of(words[3]),
+        ducked: words[3] != 0,
     };
     Setup {
         tape,
@@ -385,28 +331,30 @@ fn flags_fit(words: &[u64]) -> bool
     requires { setup_words_long ≤ length words.now }
     ensures { result ≡ flags_fit words.now }
 {
-    both(words[2] <= 1, words[3] <= 1)
+    words[2] <= 1 && words[3] <= 1
 }
 
+#[tactic(auto, unfolding(crate::specs::Packing::setup_fits))]
 fn setup_fits(numbers: &[f64], words: &[u64]) -> bool
     requires { (setup_numbers_long ≤ length numbers.now) × (setup_words_long ≤ length words.now) }
     ensures { result ≡ setup_fits numbers.now words.now }
 {
-    let tone = tone_fits(numbers, words[0]);
-    let pad = pad_fits(numbers_from(numbers, TONE), words[1]);
-    let weather = both_short(numbers_from(numbers, 8));
-    both(tone, both(pad, both(weather, flags_fit(words))))
+    tone_fits(numbers, words[0])
+        && pad_fits(&numbers[TONE..], words[1])
+        && both_short(&numbers[8..])
+        && flags_fit(words)
 }
 
 // ---- what the tape keeps
 
+#[tactic(auto, unfolding(crate::specs::Packing::equalizer_from))]
 fn equalizer_from(numbers: &[f64]) -> Equalizer
     requires { equalizer_long ≤ length numbers.now }
     ensures { result ≡ equalizer_from numbers.now }
 {
     let bump = section_from(numbers);
-    let rolloff = lowpass_from(numbers_from(numbers, SECTION));
-    let tilt = one_pole_from(numbers_from(numbers, TILT_AT));
+    let rolloff = lowpass_from(&numbers[SECTION..]);
+    let tilt = one_pole_from(&numbers[TILT_AT..]);
     Equalizer {
         bump,
         rolloff,
@@ -414,14 +362,15 @@ fn equalizer_from(numbers: &[f64]) -> Equalizer
     }
 }
 
+#[tactic(auto, unfolding(crate::specs::Packing::duck_from))]
 fn duck_from(words: &[u64]) -> Duck
     requires { tape_words_long ≤ length words.now }
     ensures { result ≡ duck_from words.now }
 {
     Duck {
-        count: size_of(words[0]),
-        reached: size_of(words[1]),
-        ducking: size_of(words[2]),
+        count: words[0] as usize,
+        reached: words[1] as usize,
+        ducking: words[2] as usize,
     }
 }
 
@@ -430,8 +379,8 @@ fn tape_from(numbers: &[f64], words: &[u64]) -> Tape
     ensures { result ≡ tape_from numbers.now words.now }
 {
     let tone = lowpass_from(numbers);
-    let equalizer = equalizer_from(numbers_from(numbers, LOWPASS));
-    let tuning = numbers_from(numbers, TUNING_AT);
+    let equalizer = equalizer_from(&numbers[LOWPASS..]);
+    let tuning = &numbers[TUNING_AT..];
     let duck = duck_from(words);
     Tape {
         tone,
@@ -445,6 +394,7 @@ fn tape_from(numbers: &[f64], words: &[u64]) -> Tape
 
 // ---- a lane
 
+#[tactic(auto, unfolding(crate::specs::Packing::lane_numbers))]
 pub fn lane_numbers(lane: Lane) -> [f64; LANE_NUMBERS]
     ensures { result ≡ lane_numbers lane }
 {
@@ -524,6 +474,7 @@ pub fn lane_numbers(lane: Lane) -> [f64; LANE_NUMBERS]
     ]
 }
 
+#[tactic(auto, unfolding(crate::specs::Packing::lane_words))]
 pub fn lane_words(lane: Lane) -> [u64; LANE_WORDS]
     ensures { result ≡ lane_words lane }
 {
@@ -540,16 +491,16 @@ pub fn lane_words(lane: Lane) -> [u64; LANE_WORDS]
         pad_tag(pad),
         flagged(lane.setup.tape.darkened),
         flagged(lane.setup.tape.ducked),
-        word_of(lane.points),
+        lane.points as u64,
         lane.daylight.start,
         lane.daylight.len,
         shape_tag(daylight_shape),
         lane.rain.start,
         lane.rain.len,
         shape_tag(rain_shape),
-        word_of(lane.tape.duck.count),
-        word_of(lane.tape.duck.reached),
-        word_of(lane.tape.duck.ducking),
+        lane.tape.duck.count as u64,
+        lane.tape.duck.reached as u64,
+        lane.tape.duck.ducking as u64,
         lane.tape.until,
     ]
 }
@@ -559,35 +510,26 @@ pub fn lane_from(numbers: &[f64], words: &[u64]) -> Lane
     ensures { result ≡ lane_from numbers.now words.now }
 {
     let setup = setup_from(numbers, words);
-    let daylight = ramp_from(
-        numbers_from(numbers, SETUP_NUMBERS),
-        words_from(words, DAYLIGHT_WORDS_AT),
-    );
-    let rain = ramp_from(
-        numbers_from(numbers, RAIN_AT),
-        words_from(words, RAIN_WORDS_AT),
-    );
-    let tape = tape_from(
-        numbers_from(numbers, TAPE_AT),
-        words_from(words, TAPE_WORDS_AT),
-    );
+    let daylight = ramp_from(&numbers[SETUP_NUMBERS..], &words[DAYLIGHT_WORDS_AT..]);
+    let rain = ramp_from(&numbers[RAIN_AT..], &words[RAIN_WORDS_AT..]);
+    let tape = tape_from(&numbers[TAPE_AT..], &words[TAPE_WORDS_AT..]);
     Lane {
         setup,
-        points: size_of(words[SETUP_WORDS]),
+        points: words[SETUP_WORDS] as usize,
         daylight,
         rain,
         tape,
     }
 }
 
+#[tactic(auto, unfolding(crate::specs::Packing::lane_fits))]
 fn lane_fits(numbers: &[f64], words: &[u64]) -> bool
     requires { (lane_numbers_long ≤ length numbers.now) × (lane_words_long ≤ length words.now) }
     ensures { result ≡ lane_fits numbers.now words.now }
 {
-    let setup = setup_fits(numbers, words);
-    let daylight = ramp_fits(words_from(words, DAYLIGHT_WORDS_AT));
-    let rain = ramp_fits(words_from(words, RAIN_WORDS_AT));
-    both(setup, both(daylight, rain))
+    setup_fits(numbers, words)
+        && ramp_fits(&words[DAYLIGHT_WORDS_AT..])
+        && ramp_fits(&words[RAIN_WORDS_AT..])
 }
 
 // ---- a bus
@@ -627,26 +569,28 @@ pub fn bus_words(bus: Bus) -> [u64; BUS_WORDS]
 {
     [
         bus.ceiling.count,
-        word_of(bus.ceiling.head),
-        word_of(bus.ceiling.len),
+        bus.ceiling.head as u64,
+        bus.ceiling.len as u64,
     ]
 }
 
+#[tactic(auto, unfolding(crate::specs::Packing::plate_from))]
 fn plate_from(numbers: &[f64]) -> Plate
     requires { bus_numbers_long ≤ length numbers.now }
     ensures { result ≡ plate_from numbers.now }
 {
     let tank_left = one_pole_from(numbers);
-    let tank_right = one_pole_from(numbers_from(numbers, ONE_POLE));
+    let tank_right = one_pole_from(&numbers[ONE_POLE..]);
     let tank = Tank {
         left: tank_left,
         right: tank_right,
     };
-    let left = section_from(numbers_from(numbers, LEFT_AT));
-    let right = section_from(numbers_from(numbers, RIGHT_AT));
+    let left = section_from(&numbers[LEFT_AT..]);
+    let right = section_from(&numbers[RIGHT_AT..]);
     Plate { tank, left, right }
 }
 
+#[tactic(auto, unfolding(crate::specs::Packing::bus_from))]
 pub fn bus_from(numbers: &[f64], words: &[u64]) -> Bus
     requires { (bus_numbers_long ≤ length numbers.now) × (bus_words_long ≤ length words.now) }
     ensures { result ≡ bus_from numbers.now words.now }
@@ -655,8 +599,8 @@ pub fn bus_from(numbers: &[f64], words: &[u64]) -> Bus
     let ceiling = Ceiling {
         released: numbers[RELEASED_AT],
         count: words[0],
-        head: size_of(words[1]),
-        len: size_of(words[2]),
+        head: words[1] as usize,
+        len: words[2] as usize,
     };
     Bus { plate, ceiling }
 }
@@ -699,31 +643,27 @@ pub fn pack(strip: Strip, numbers: &mut [f64], words: &mut [u64])
     pack_words(strip, words);
 }
 
+#[tactic(auto, unfolding(crate::specs::Packing::roomy))]
 pub fn roomy(numbers: &[f64], words: &[u64]) -> bool
     ensures { result ≡ roomy numbers.now words.now }
 {
-    both(NUMBERS <= numbers.len(), WORDS <= words.len())
+    NUMBERS <= numbers.len() && WORDS <= words.len()
 }
 
+#[tactic(auto, unfolding(crate::specs::Packing::unpackable))]
 fn unpackable(numbers: &[f64], words: &[u64]) -> bool
     requires { (numbers_long ≤ length numbers.now) × (words_long ≤ length words.now) }
     ensures { result ≡ unpackable numbers.now words.now }
 {
-    lane_fits(
-        numbers_from(numbers, BUS_NUMBERS),
-        words_from(words, LANE_WORDS_AT),
-    )
+    lane_fits(&numbers[BUS_NUMBERS..], &words[LANE_WORDS_AT..])
 }
 
 fn strip_from(numbers: &[f64], words: &[u64]) -> Strip
     requires { (numbers_long ≤ length numbers.now) × (words_long ≤ length words.now) }
     ensures { result ≡ strip_from numbers.now words.now }
 {
-    let bus = bus_from(numbers, words_from(words, OWN_WORDS));
-    let lane = lane_from(
-        numbers_from(numbers, BUS_NUMBERS),
-        words_from(words, LANE_WORDS_AT),
-    );
+    let bus = bus_from(numbers, &words[OWN_WORDS..]);
+    let lane = lane_from(&numbers[BUS_NUMBERS..], &words[LANE_WORDS_AT..]);
     Strip {
         position: words[0],
         lane,

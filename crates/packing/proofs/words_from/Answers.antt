@@ -1,5 +1,0 @@
-use Rattle.packing.proofs.Read.{behind}
-use Rattle.packing.proofs.words_from.Goals as goal
-
-pub returns : goal.returns
-returns c = behind _ _ c.requires
