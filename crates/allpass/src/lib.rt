@@ -7,6 +7,7 @@ ghost use Rattle.delay.specs.Delay.{Reach};
 ghost use Rattle.ranges.specs.Ranges.{last_position};
 ghost use Rattle.allpass.specs.Allpass.{gave, stored_of, lattice_from_on, lattice_on, stretched_at, delay_on, Lent};
 
+// A line's rate and its part come as two parameters: a part is lent to several lines in turn, so a struct of both would be made anew at each call.
 use rate::LineRate;
 
 // What a line inside a loop takes: the Rust's flush(v) + kick, kick being 0. The sum changes no value, since flush gives no -0.

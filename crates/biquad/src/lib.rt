@@ -21,7 +21,8 @@ pub struct Coefficients {
     pub a2: f64,
 }
 
-// Direct Form 1: five coefficients, the last two inputs and the last two outputs.
+// Direct Form 1: five coefficients, the last two inputs and the last two outputs. It has the five as its own: the definitions of the stages name them so,
+// and by a field of Coefficients each would be one name longer.
 #[derive(Clone, Copy)]
 pub struct Section {
     pub b0: f64,

@@ -288,6 +288,7 @@ pub fn go(
     let mut right = [0.0f64; BLOCK];
     let mut strip = strip;
     let mut i: usize = 0;
+    // By hand: a block is as long as its tuning lasts, which only the block before leaves.
     while i < samples.len() {
         let tape = tuned(rate, strip, store, counts);
         let k = block_len(tape.until, strip.position, samples.len() - i);

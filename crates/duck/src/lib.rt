@@ -38,7 +38,7 @@ struct PastAttacks {
     next: usize,
 }
 
-// A duck's part of the count store: the kicks, and their marks after them.
+// A duck's part of the count store: the kicks, and their marks after them. A mark is a word, 1 or 0, as all that stands there.
 pub const COUNTS: usize = 2 * ranges::MOST_KICKS;
 
 // ---- the kicks
@@ -208,7 +208,7 @@ impl<'a> Kicks<'a> {
         }
     }
 
-    // The gains of those from one on, two by two while two sound.
+    // The gains of those from one on, two by two while two sound. By an index: it stops at a pair, and what is left begins there.
     fn product_by_two(self, from: usize, rate: DuckRate, n: u64) -> f64
         requires { from ≤ length self.positions.now }
         ensures { result ≡ times_until rate n one (drop from self.entry.positions.now) (drop from (map is_mark self.entry.marks.now)) }
@@ -226,7 +226,7 @@ impl<'a> Kicks<'a> {
     }
 
     // The products at n and at n + 1 over those from one on up to the first whose attack is not over, side by side: a product's
-    // multiplications wait for each other, those of two do not.
+    // multiplications wait for each other, those of two do not. By an index, since it answers where it stopped.
     fn past_attacks(self, from: usize, rate: DuckRate, n: u64) -> PastAttacks
         requires from_within { from ≤ length self.positions.now }
         requires n_bound { n + 1 < last_position }
@@ -324,6 +324,7 @@ pub fn duck_block(
     ensures block_after { block.new ≡ outs (duck_step_on rate drums) n (duck_on duck counts.old) block.old }
 {
     let mut i = 0;
+    // By an index: after chunks_mut a proof knows no sample, and the last one of an odd number stands alone.
     while i + 1 < block.len() {
         let g = duck_two(rate, duck, counts, n + i as u64, drums);
         block[i] *= g.gains.at;

@@ -123,6 +123,7 @@ impl Lane<'_> {
         requires { n ≤ last_position }
     {
         let mut at = 0;
+        // By hand: a piece is as long as its tuning lasts, which only the piece before leaves.
         while at < block.len() {
             let m = n + at as u64;
             self.tune(m);

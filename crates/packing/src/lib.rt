@@ -96,6 +96,7 @@ pub fn flagged(flag: bool) -> u64
     u64::from(flag)
 }
 
+// A tag and not a From: the shape is ramp's and the tone automation's, and neither knows the packing's words.
 fn shape_tag(shape: Shape) -> u64
     ensures { result ≡ shape_tag shape }
 {

@@ -368,6 +368,7 @@ impl CeilingRate {
 }
 
 // A strip's: how long the two lent stores are at least, and the stages' numbers.
+// That a rate can be used (RateUsable) is a clause of each function and no invariant here: `rate_of` makes the numbers of any Hz, and theorems speak of it.
 #[derive(Clone, Copy)]
 pub struct Rate {
     pub samples: usize,

@@ -175,6 +175,7 @@ fn lists_formed(rate: Rate, points: usize, duck: Duck, samples: &[f64], counts: 
     requires { (length samples.now ≡ lane_samples rate) × (length counts.now ≡ lane_counts) }
     ensures { result ≡ (leb points most_points && (ok_points (take points (drop duck_counts counts.now)) (take points (drop (warp_samples rate.tape) samples.now)) && duck_formed (duck_on duck (take duck_counts counts.now)))) }
 {
+    // First, and by itself: the slices below need it.
     if ranges::MOST_POINTS < points {
         return false;
     }
