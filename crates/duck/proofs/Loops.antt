@@ -1,6 +1,5 @@
 -- The loops over the kicks: what one more kick does, and where a loop ends. Assumes nothing.
 use mathlib.Core.Path.{◌≡◌, refl, sym, ap, ◌∙◌}
-use mathlib.Core.Logic.{◌⊎◌, inl, inr}
 use mathlib.Core.Bool.{Bool, true, false, cond, ◌&&◌, and-eq-true_iff}
 use Prim.Native.Nat.{ℕ, zero, suc, ◌+◌, ◌-◌, ◌<◌, ◌≤◌}
 use native.Mathlib.Omega.{arith}
@@ -124,21 +123,14 @@ module _ (count : ℕ) (u : List ℕ) (few : count ≤ most_kicks) (wide : duck_
 -- ---- the product, of kicks and their marks
 
 module _ (r : DuckRate) (n : ℕ) (g : Float) where
-  pub times_step : (k m : ℕ) (ks ms : List ℕ) → k ≤ n → times_until r n (times_gain r g (n - k) (is_mark m)) ks (map is_mark ms) ≡ times_until r n g (k ∷ ks) (map is_mark (m ∷ ms))
+  times_step : (k m : ℕ) (ks ms : List ℕ) → k ≤ n → times_until r n (times_gain r g (n - k) (is_mark m)) ks (map is_mark ms) ≡ times_until r n g (k ∷ ks) (map is_mark (m ∷ ms))
   unfolding times_until
   times_step k m ks ms e = rw (le-leb k n e)
 
-  pub times_halt : (k : ℕ) (ks ms : List ℕ) → n < k → g ≡ times_until r n g (k ∷ ks) (map is_mark ms)
+  times_halt : (k : ℕ) (ks ms : List ℕ) → n < k → g ≡ times_until r n g (k ∷ ks) (map is_mark ms)
   unfolding times_until
   times_halt k ks [] e = refl
   times_halt k ks (m ∷ ms) e = rw (lt-leb k n e)
-
-  pub times_none : (ks ms : List ℕ) → (ks ≡ []) ⊎ (ms ≡ []) → g ≡ times_until r n g ks (map is_mark ms)
-  unfolding times_until
-  times_none [] ms e = refl
-  times_none (k ∷ ks) [] e = refl
-  times_none (k ∷ ks) (m ∷ ms) (inl e) = absurd (cc)
-  times_none (k ∷ ks) (m ∷ ms) (inr e) = absurd (cc)
 
 module _ (ks ms : List ℕ) (same : length ks ≡ length ms) (r : DuckRate) (n c : ℕ) where
   pub times_more : (g : Float) → c < length ks → get_or ks c 0 ≤ n

@@ -188,11 +188,12 @@ impl<'a> Kicks<'a> {
         ensures { result ≡ times_until rate n gain (drop from self.entry.positions.now) (drop from (map is_mark self.entry.marks.now)) }
     {
         let mut product = gain;
-        for (kick, mark) in self.positions[from..].iter().zip(&self.marks[from..]) {
-            if n < *kick {
+        for c in from..self.positions.len() {
+            let kick = self.positions[c];
+            if n < kick {
                 break;
             }
-            product = times_gain(rate, product, n - *kick, *mark);
+            product = times_gain(rate, product, n - kick, self.marks[c]);
         }
         product
     }

@@ -61,9 +61,10 @@ fn past_attack(rate: DuckRate, up: u64) -> f64
 pub fn sidechain_gain(rate: DuckRate, since: u64) -> f64
     ensures { result ≡ sidechain_gain rate since }
 {
-    match since.checked_sub(rate.attack) {
-        Some(up) => past_attack(rate, up),
-        None => attack::attack_gain(rate.floor, rate.attack, since),
+    if since < rate.attack {
+        attack::attack_gain(rate.floor, rate.attack, since)
+    } else {
+        past_attack(rate, since - rate.attack)
     }
 }
 
