@@ -15,6 +15,7 @@ ghost use Rattle.master.specs.Kept.{frames_out, counts_out};
 ghost use Rattle.strip.specs.Kept.{lane_on, lane_step_on, bus_on, mixed_step_on, bus_step_on, lane_in, state};
 ghost use Rattle.blocks.specs.Run.{sents_in, added, LaneRuns, BusRuns, Runs, tuned_of, Piecewise, Outputs, ran_all, all_ran};
 
+use automation::Sweep;
 use plate::Plate;
 use rate::{PlateRate, Rate, places};
 use strip::{Bus, Lane, Strip};
@@ -43,8 +44,10 @@ pub fn lane_tuned(rate: Rate, lane: Lane, samples: &[f64], counts: &[u64], n: u6
         rate.tape,
         tone,
         daylight,
-        &counts[duck::COUNTS..positions_end],
-        &samples[warp..values_end],
+        Sweep {
+            positions: &counts[duck::COUNTS..positions_end],
+            values: &samples[warp..values_end],
+        },
         kept,
         n,
     )

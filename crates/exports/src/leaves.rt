@@ -1,6 +1,6 @@
 // Flush, filters, delay lines, ramps, the sweep, the tone and the duck. Their numbers go over as arrays, and choices as numbers and flags,
 // since C and the harness hand them over so.
-use automation::Tone;
+use automation::{Sweep, Tone};
 use biquad::{Coefficients, Lowpass, Section};
 use duck::Duck;
 use onepole::OnePole;
@@ -162,9 +162,11 @@ pub fn goqhari_test_sweep(points: &[u64], values: &[f64], own: f32, n: u64) -> f
         corner: own,
         drive: 1.0,
     };
-    automation::piece_at(tone, daylight, points, values, n)
-        .tuning
-        .corner
+    let sweep = Sweep {
+        positions: points,
+        values,
+    };
+    automation::piece_at(tone, daylight, sweep, n).tuning.corner
 }
 
 pub fn goqhari_test_swept(own: f32, value: f64) -> f32 {

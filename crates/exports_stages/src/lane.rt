@@ -4,6 +4,7 @@ ghost use Rattle.ranges.specs.Ranges.{most_kicks, last_position};
 ghost use Rattle.duck.specs.Cursors.{duck_counts};
 
 use crate::{end_of, in_time};
+use automation::Sweep;
 use ramp::{Ramp, Shape};
 use rate::TapeRate;
 use tape::{Tape, TapeSetup};
@@ -58,19 +59,17 @@ pub(crate) fn held(control: f32) -> Ramp {
 
 // A lane, with what it plays by and the parts that it is lent.
 #[derive(Drop)]
-pub(crate) struct Lane<'a> {
+pub(crate) struct Lane<'a, 's> {
     pub setup: TapeSetup,
-    pub points: &'a [u64],
-    pub values: &'a [f64],
+    pub sweep: Sweep<'s>,
     pub ring: &'a mut [f64],
     pub counts: &'a mut [u64],
     pub daylight: Ramp,
     pub rain: Ramp,
     pub tape: Tape,
-    ghost paired: { length points.now ≤ length values.now },
 }
 
-impl Lane<'_> {
+impl Lane<'_, '_> {
     // Whether its parts and its duck fit, and a block of len samples at n.
     fn fits(&self, n: u64, len: usize) -> bool
         ensures { result ≡ true → (length self.now.ring.now ≡ 64) × (duck_counts ≤ length self.now.counts.now) × (self.now.tape.duck.count ≤ most_kicks) × (self.now.tape.duck.reached ≤ self.now.tape.duck.count) × (self.now.tape.duck.ducking ≤ self.now.tape.duck.count) × (n + len ≤ last_position) }
@@ -91,8 +90,7 @@ impl Lane<'_> {
                 TapeRate::cd(),
                 self.setup.tone,
                 self.daylight,
-                self.points,
-                self.values,
+                self.sweep,
                 self.tape,
                 n,
             );

@@ -12,6 +12,7 @@ ghost use Rattle.master.specs.WellFormed.{well_formed};
 
 mod lane;
 
+use automation::Sweep;
 use duck::Duck;
 use lane::Lane;
 use master::Ceiling;
@@ -64,10 +65,13 @@ pub fn goqhari_test_tape(
     if values.len() < points.len() {
         return tape::at_rest(tape, ring);
     }
+    let sweep = Sweep {
+        positions: points,
+        values,
+    };
     let mut lane = Lane {
         setup: setup::tape_setup_of(f32s, f64s, flags),
-        points,
-        values,
+        sweep,
         ring,
         counts,
         daylight: lane::held(f32s[6]),

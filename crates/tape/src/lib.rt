@@ -13,7 +13,7 @@ ghost use Rattle.ranges.specs.Ranges.{last_position};
 ghost use Rattle.tape.specs.Tape.{lift_at, equalizer_step, equalizer_at_rest};
 ghost use Rattle.tape.specs.Kept.{front_step_on, front_on, front_gave, equalizer_gave, ducked_step_on, tape_on, tape_tuned, tuned_at, untuned, WarpFits, fresh_tape, tape_at_rest_on};
 
-use automation::Tone;
+use automation::{Sweep, Tone};
 use biquad::{Coefficients, Lowpass, Section};
 use duck::Duck;
 use onepole::{OnePole, Tilted};
@@ -269,22 +269,14 @@ fn duck_block(
 
 // The tape tuned for the sample at n. A tuning costs more than a sample, so it is kept as long as it lasts.
 #[tactic(auto, unfolding(crate::specs::Kept::tuned_at, crate::specs::Kept::tuned_afresh))]
-pub fn tuned(
-    rate: TapeRate,
-    tone: Tone,
-    daylight: Ramp,
-    positions: &[u64],
-    values: &[f64],
-    tape: Tape,
-    n: u64,
-) -> Tape
-    requires { (length positions.now ≤ length values.now) × (n < last_position) }
-    ensures { result ≡ tuned_at rate tone daylight positions.now values.now n tape }
+pub fn tuned(rate: TapeRate, tone: Tone, daylight: Ramp, sweep: Sweep, tape: Tape, n: u64) -> Tape
+    requires { n < last_position }
+    ensures { result ≡ tuned_at rate tone daylight sweep.entry.positions.now sweep.entry.values.now n tape }
 {
     if n < tape.until {
         return tape;
     }
-    let p = automation::piece_at(tone, daylight, positions, values, n);
+    let p = automation::piece_at(tone, daylight, sweep, n);
     Tape {
         tone: tape.tone.retuned(p.tuning.corner, rate.hz),
         drive: p.tuning.drive,

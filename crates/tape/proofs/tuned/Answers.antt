@@ -11,5 +11,5 @@ unfolding piece_at
 overflow_add-result c =
     let a = c.args in
     let p = c.piece_at-p in
-    let e : p.result.len ≡ span a.daylight a.positions.now a.n = ap (λ (q : Piece). q.len) p.ensures in
-    omega (arith, e, span_most a.daylight a.positions.now a.n, c.requires.1)
+    let e : p.result.len ≡ span a.daylight a.sweep.positions.now a.n = ap (λ (q : Piece). q.len) p.ensures in
+    omega (arith, e, span_most a.daylight a.sweep.positions.now a.n, c.requires)
