@@ -35,22 +35,12 @@ pub fn lane_tuned(rate: Rate, lane: Lane, samples: &[f64], counts: &[u64], n: u6
     let warp = places::warp_samples(rate);
     let values_end = warp + lane.points;
     let positions_end = duck::COUNTS + lane.points;
-    let setup = lane.setup;
-    let tape = setup.tape;
-    let tone = tape.tone;
-    let daylight = lane.daylight;
-    let kept = lane.tape;
-    tape::tuned(
-        rate.tape,
-        tone,
-        daylight,
-        Sweep {
-            positions: &counts[duck::COUNTS..positions_end],
-            values: &samples[warp..values_end],
-        },
-        kept,
-        n,
-    )
+    let sweep = Sweep {
+        positions: &counts[duck::COUNTS..positions_end],
+        values: &samples[warp..values_end],
+    };
+    let tone = lane.setup.tape.tone;
+    tape::tuned(rate.tape, tone, lane.daylight, sweep, lane.tape, n)
 }
 
 // The lane's samples at the send level.

@@ -268,21 +268,22 @@ fn duck_block(
 }
 
 // The tape tuned for the sample at n. A tuning costs more than a sample, so it is kept as long as it lasts.
-#[tactic(auto, unfolding(crate::specs::Kept::tuned_at, crate::specs::Kept::tuned_afresh))]
+#[tactic(auto, unfolding(crate::specs::Kept::tuned_at, crate::specs::Kept::tuned_afresh, automation::specs::Pieces::piece_at), using(automation::proofs::Span::span_most))]
 pub fn tuned(rate: TapeRate, tone: Tone, daylight: Ramp, sweep: Sweep, tape: Tape, n: u64) -> Tape
     requires { n < last_position }
     ensures { result ≡ tuned_at rate tone daylight sweep.entry.positions.now sweep.entry.values.now n tape }
 {
     if n < tape.until {
-        return tape;
-    }
-    let p = automation::piece_at(tone, daylight, sweep, n);
-    Tape {
-        tone: tape.tone.retuned(p.tuning.corner, rate.hz),
-        drive: p.tuning.drive,
-        top: elementary::tanh(p.tuning.drive),
-        until: n + p.len,
-        ..tape
+        tape
+    } else {
+        let p = automation::piece_at(tone, daylight, sweep, n);
+        Tape {
+            tone: tape.tone.retuned(p.tuning.corner, rate.hz),
+            drive: p.tuning.drive,
+            top: elementary::tanh(p.tuning.drive),
+            until: n + p.len,
+            ..tape
+        }
     }
 }
 
