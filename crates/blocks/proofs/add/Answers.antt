@@ -22,6 +22,3 @@ loop-i-preserved c = let l = c.loop-i in
       ),
       e,
     )
-
-pub returns : goal.returns
-returns c = let l = c.loop-i in wrote_done _ l.side l.i l.invariant.0.0 (rw (added_length _ _ l.invariant.1) (rw c.requires at c.loop-i-test.false))

@@ -18,22 +18,6 @@ lane_block-lane-requires c =
       sent_len = p.outputs.left;
     })
 
-pub bus_block-bus-requires : goal.bus_block-bus-requires
-bus_block-bus-requires c =
-    let s = c in
-    let g = s.args in
-    let k = c.lane_block-lane in
-    let lent = bus_of_lent g.rate s.requires.rate_usable g.strip g.store.now g.counts.now s.requires.runs _ _ _ _ refl refl refl refl k.new.samples k.new.counts in
-    let o = s.requires.outputs in
-    let d = k.auto.dry in
-    let e = k.auto.sent in
-    rw (c.lane_part-lane_part.ensures, c.bus_part-bus_part.ensures) (record {
-      rate_usable = s.requires.rate_usable;
-      bus_runs = subst⁻¹ (BusRuns g.rate) lent s.requires.runs.bus;
-      dry_bound = omega (arith, d, s.requires.piecewise.before);
-      outputs = record { left = omega (arith, d, e, o.left); right = omega (arith, d, o.right); frames = omega (arith, d, o.frames); gains = omega (arith, d, o.gains) };
-    })
-
 pub returns : goal.returns
 returns c =
     let s = c in

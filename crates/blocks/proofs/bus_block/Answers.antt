@@ -7,30 +7,6 @@ use Rattle.blocks.specs.Run.{sents_in}
 use Rattle.blocks.proofs.Staged.{ceiling_room, ceiling_well, bus_ended, bus_gave}
 use Rattle.blocks.proofs.bus_block.Goals as goal
 
-pub mix-plate-requires : goal.mix-plate-requires
-mix-plate-requires c =
-    let s = c in
-    let g = s.args in
-    let o = s.requires.outputs in
-    record { plate_usable = s.requires.rate_usable.plate; part_len = (mid_len 0 c.plate_samples-at.result g.samples.now (omega (arith, c.plate_samples-at.ensures, s.requires.bus_runs.long.samples)) ∙ omega (arith, c.plate_samples-at.ensures), s.requires.dry_bound); left_len = (o.left, o.right) }
-
-pub block-ceiling-requires : goal.block-ceiling-requires
-block-ceiling-requires c =
-    let s = c in
-    let g = s.args in
-    let o = s.requires.outputs in
-    let m = c.mix-plate in
-    let p = c.plate_samples-at in
-    let x = m.auto.left in
-    let y = m.auto.right in
-    let long : length m.new.part ≡ p.result = omega (arith, m.auto.part, mid_len 0 p.result g.samples.now (omega (arith, p.ensures, s.requires.bus_runs.long.samples))) in record {
-      usable = s.requires.rate_usable.ceiling;
-      sized = ceiling_room g.rate g.bus g.n g.samples.now g.counts.now (sents_in g.dry.now g.left.now) s.requires.bus_runs p.result p.ensures m.new.part long;
-      is_well_formed = ceiling_well g.rate g.bus g.n g.samples.now g.counts.now (sents_in g.dry.now g.left.now) s.requires.bus_runs p.result p.ensures m.new.part long;
-      left_bound = (omega (arith, x, o.left, s.requires.dry_bound), omega (arith, x, y, o.left, o.right));
-      frames_len = (omega (arith, x, o.left, o.frames), omega (arith, x, o.left, o.gains));
-    }
-
 pub returns : goal.returns
 returns c =
     let s = c in

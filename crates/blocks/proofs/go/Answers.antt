@@ -33,12 +33,6 @@ block_len-k-requires c =
     let lists = lists_in r (lane_in r (state l.strip l.store l.counts)) in
     (rw c.tuned-tape.ensures (tuned_some r.tape l.strip.lane.setup.tape.tone l.strip.lane.daylight lists.positions lists.values l.strip.position l.strip.lane.tape), omega (arith, c.loop-i-test.true))
 
-pub copy_from_slice-requires : goal.copy_from_slice-requires
-copy_from_slice-requires c =
-    let l = c.loop-i in
-    let k = c.block_len-k in
-    omega (arith, mid_len l.i (l.i + k.result) c.args.samples.now (omega (arith, k.ensures.2, c.loop-i-test.true)), mid_len 0 k.result l.dry (omega (arith, k.ensures.3, l.invariant.1.4)))
-
 pub block-strip-requires : goal.block-strip-requires
 block-strip-requires c =
     let s = c in
@@ -63,9 +57,6 @@ block-strip-requires c =
         gains = omega (arith, k, mid_len l.i (l.i + e) l.gains (omega (arith, m.2, h, l.invariant.1.1)));
       };
     }
-
-pub loop-i-smaller : goal.loop-i-smaller
-loop-i-smaller c = let m = c.block_len-k.ensures in omega (arith, c.loop-i-test.true, m.0, m.2)
 
 pub loop-i-preserved : goal.loop-i-preserved
 loop-i-preserved c =

@@ -16,9 +16,6 @@ tape_block-tape-requires c =
       block_bound = s.requires.piecewise.before;
     }
 
-pub send-requires : goal.send-requires
-send-requires c = omega (arith, c.tape_block-tape.auto.block, c.requires.sent_len)
-
 pub returns : goal.returns
 returns c =
     let s = c in

@@ -6,12 +6,6 @@ use Rattle.blocks.specs.Run.{added}
 use Rattle.blocks.proofs.Mixed.{mixed_ran, mixed_side}
 use Rattle.blocks.proofs.mix.Goals as goal
 
-pub add-requires : goal.add-requires
-add-requires c = omega (arith, c.block-next.auto.left, c.requires.left_len.0)
-
-pub add-requires-2 : goal.add-requires-2
-add-requires-2 c = omega (arith, c.block-next.auto.right, c.requires.left_len.1)
-
 pub returns : goal.returns
 returns c =
     let s = c.args in

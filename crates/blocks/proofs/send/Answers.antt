@@ -6,13 +6,7 @@ use Rattle.casts.specs.Arithmetic.{◌⊗◌}
 use Rattle.stage.proofs.Loop.{wrote_start, wrote_turn, wrote_done}
 use Rattle.blocks.proofs.send.Goals as goal
 
-pub loop-i-init : goal.loop-i-init
-loop-i-init c = (wrote_start _ _ (c.requires ∙ sym (length-map c.args.dry.now (λ (y : Float). y ⊗ c.args.level))), c.requires)
-
 pub loop-i-preserved : goal.loop-i-preserved
 loop-i-preserved c = let l = c.loop-i in
     let s = c.args in
     (wrote_turn (map (λ (y : Float). y ⊗ s.level) s.dry.now) l.sent l.i _ (nan ⊗ s.level) l.invariant.0 (rw (length-map s.dry.now (λ (y : Float). y ⊗ s.level)) (rw c.requires at c.loop-i-test.true)) (get_or-map (λ (y : Float). y ⊗ s.level) s.dry.now l.i nan), simp length-set l.invariant.1)
-
-pub returns : goal.returns
-returns c = let l = c.loop-i in wrote_done _ l.sent l.i l.invariant.0 (rw (length-map c.args.dry.now (λ (y : Float). y ⊗ c.args.level)) (rw c.requires at c.loop-i-test.false))
