@@ -12,6 +12,10 @@ pub floor_is : of_bits binary64 0x3fe0_09b9_cf33_4253 ≡ strip_floor
 unfolding of_bits round
 floor_is = refl
 
+-- from the entry k to the j that is k
+pub entry : {j : ℕ} {x : Float} (k : ℕ) → j ≡ k → x ≡ attack_gain strip_floor 441 k → x ≡ attack_gain strip_floor 441 j
+entry {j} {x} k e rule = subst (λ (n : ℕ). x ≡ attack_gain strip_floor 441 n) (sym e) rule
+
 -- an attack that has the table has its gains: floats of the same bits are the same
 pub tabled_says : (floor : Float) (attack : ℕ) → T (fits binary64 floor) → tabled floor attack ≡ true → (j : ℕ) → attack_gain strip_floor 441 j ≡ attack_gain floor attack j
 unfolding tabled

@@ -12,5 +12,5 @@ table_is : TABLE ≡ map (attack_gain strip_floor 441) (range_with_len 0 441)
 unfolding attack_gain of_bits of_int add sub mul div round
 table_is = refl
 
-pub entry : (j : ℕ) → j < 441 → get_or TABLE j nan ≡ attack_gain strip_floor 441 j
-entry j h = ap (λ (table : List Float). get_or table j nan) table_is ∙ get_or-map-range_with_len (attack_gain strip_floor 441) 0 441 j j nan h (zero-add j)
+pub table_entry : (j : ℕ) → j < 441 → get_or TABLE j nan ≡ attack_gain strip_floor 441 j
+table_entry j h = ap (λ (table : List Float). get_or table j nan) table_is ∙ get_or-map-range_with_len (attack_gain strip_floor 441) 0 441 j j nan h (zero-add j)
