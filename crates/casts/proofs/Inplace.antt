@@ -2,9 +2,9 @@
 use Rattle.std.proofs.Common.{◌≡◌, ℕ, ◌+◌, ◌-◌, ◌*◌, ◌/◌, ◌%◌, ◌^◌, ◌<◌, ◌≤◌, Bool, true, false, not, T, ltb, sym, ap, ◌∙◌, subst, add-sub_of_le, zero-add, arith, ltb→lt, nltb→le}
 use lib.Ieee.{binary32, binary64, of_bits}
 use lib.Ieee.Nearest.{closest}
-use Rattle.casts.specs.Cast.{narrowed, signed, Rounds}
+use Rattle.casts.specs.Cast.{narrowed, signed, Narrows, Rounds}
 use Rattle.casts.proofs.Closest.{closest_even}
-use Rattle.casts.proofs.Narrowing.{Narrows, narrows_mid}
+use Rattle.casts.proofs.Narrowing.{narrows_mid}
 
 -- what the code computes
 abbrev pub placed : ℕ → ℕ

@@ -1,22 +1,14 @@
 -- An f64's pattern, turned into that of the nearest f32. Assumes nothing.
-use Rattle.std.proofs.Common.{◌≡◌, ℕ, zero, suc, ◌+◌, ◌-◌, ◌*◌, ◌/◌, ◌%◌, ◌^◌, ◌<◌, ◌≤◌, Bool, true, false, not, T, ltb, ◌⊎◌, sym, refl, ap, ◌∙◌, subst, inl, inr, suc-le-suc, le_trans, le_of_eq, lt_of_lt_of_le, le_of_suc-le-suc, lt_of_le_of_lt, le_of_lt, lt_irrefl, mul-le-mul_right, mul_assoc, mul-le-mul, eq-or-lt_of_le, mul-pos, zero-add, add-sub_of_le, mul-one, arith, lit<, ltb→lt, nltb→le, pow_pos, pow_mono, pow-add, shl_lt}
+use Rattle.std.proofs.Common.{◌≡◌, ℕ, zero, suc, ◌+◌, ◌-◌, ◌*◌, ◌/◌, ◌%◌, ◌^◌, ◌<◌, ◌≤◌, Bool, true, false, not, T, ltb, ◌⊎◌, sym, refl, ap, ◌∙◌, subst, inl, inr, suc-le-suc, le_trans, le_of_eq, lt_of_lt_of_le, le_of_suc-le-suc, lt_of_le_of_lt, le_of_lt, lt_irrefl, mul-le-mul_right, mul_assoc, mul-le-mul, eq-or-lt_of_le, mul-pos, zero-add, mul-one, arith, lit<, lit≤, ltb→lt, nltb→le, pow_pos, pow_mono, pow-add, shl_lt}
 use lib.Arith.{le-zero}
-use lib.Ieee.{Float, nan, inf, fin, binary32, binary64, up, down, round, of_bits, neg}
+use lib.Ieee.{Float, nan, inf, fin, binary32, binary64, up, down, round, of_bits}
 use lib.Ieee.Fits.{down_pos}
 use lib.Ieee.Exact.{HasValue}
 use lib.Ieee.Nearest.{closest, closest_same, closest_mono}
 use lib.Ieee.Scale.{round_same}
-use Rattle.std.specs.Float.{round_to_format}
-use Rattle.casts.specs.Cast.{narrowed, signed}
+use Rattle.casts.specs.Cast.{narrowed, signed, Narrows}
 use Rattle.casts.proofs.Pattern.{reads_low, reads_mid, reads_inf}
 use Rattle.casts.proofs.Rounded.{round_bits, round_over, kept_le}
-
--- `narrowed` is std's word for it
-pub narrowed_is : (x : Float) → round_to_format binary32 x ≡ narrowed x
-unfolding narrowed round_to_format
-narrowed_is nan = refl
-narrowed_is (inf s) = refl
-narrowed_is (fin s m e) = refl
 
 -- ---- `narrowed` sees only the value
 narrowed_at : (x : Float) (s : Bool) (a c : ℕ) → 0 < c → HasValue x s a c → narrowed x ≡ round binary32 s a c
@@ -24,6 +16,10 @@ unfolding narrowed
 narrowed_at nan s a c C h = absurd h
 narrowed_at (inf t) s a c C h = absurd h
 narrowed_at (fin t m e) s a c C h = round_same binary32 t (m * up e) (down e) a c (down_pos e) C h.1 ∙ ap (λ (u : Bool). round binary32 u a c) h.0
+
+narrowed_inf : (s : Bool) → narrowed (inf s) ≡ inf s
+unfolding narrowed
+narrowed_inf s = refl
 
 shift_two : (D i j : ℕ) → D * 2 ^ i * 2 ^ j ≡ D * 2 ^ (i + j)
 shift_two D i j = mul_assoc D (2 ^ i) (2 ^ j) ∙ ap (λ (x : ℕ). D * x) (sym (pow-add 2 i j))
@@ -97,6 +93,9 @@ module _ (s : Bool) (D j : ℕ) (lo : 4503599627370496 ≤ D) (hi : D < 90071992
       go true h k = mid_under (h tt)
       go false h k = ap (λ (r : ℕ). of_bits binary32 (signed binary32 s r)) (carries l (k tt)) ∙ reads_inf binary32 s ∙ sym (mid_over (k tt))
 
+  past : 254 ≤ j → round binary32 s (D * 2 ^ (j + 896)) (2 ^ 1074) ≡ inf s
+  past l = mid_over (le_trans (le_of_eq (pow-add 2 23 254)) (mul-le-mul mid_lead (pow_mono l)))
+
 -- ---- a value whose nearest f32 is below the normal ones, or 0: D of at most 53 digits, times 2 ^ (E - 1074)
 module _ (s : Bool) (D E : ℕ) (hi : D < 9007199254740992) (few : E ≤ 895) where
   low_hi : D * 2 ^ E * 2 ^ 149 < 2 ^ (24 + 0) * 2 ^ 1074
@@ -115,6 +114,14 @@ module _ (s : Bool) (D E : ℕ) (hi : D < 9007199254740992) (few : E ≤ 895) wh
       (round_bits binary32 s (D * 2 ^ E) (2 ^ 1074) 0 (pow_pos 1074) low_hi (inl refl)
       (subst (λ (x : ℕ). x * 2 ^ 0 < 2 ^ 277) (sym e) (lt_of_le_of_lt (le_of_eq (mul-one q)) (lt_of_le_of_lt (low_le q e) (lit< tt)))))
 
+  low_kept : (k : ℕ) → E + k ≡ 925 → closest (D * 2 ^ E * 2 ^ 149) (2 ^ 1074) ≡ closest D (2 ^ k)
+  low_kept k h =
+      closest_same (D * 2 ^ E * 2 ^ 149) (2 ^ 1074) D (2 ^ k) (pow_pos 1074) (pow_pos k)
+      (ap (λ (x : ℕ). x * 2 ^ k) (shift_two D E 149) ∙ shift_two D (E + 149) k ∙ ap (λ (x : ℕ). D * 2 ^ x) (places E k h))
+    where
+      places : (E k : ℕ) → E + k ≡ 925 → E + 149 + k ≡ 1074
+      places E k h = omega arith
+
   tiny_kept : E ≤ 871 → closest (D * 2 ^ E * 2 ^ 149) (2 ^ 1074) ≡ 0
   tiny_kept l =
       le-zero (closest_mono (D * 2 ^ E * 2 ^ 149) (2 ^ 1074) 9007199254740991 (2 ^ 54) (pow_pos 1074) (pow_pos 54)
@@ -123,7 +130,7 @@ module _ (s : Bool) (D E : ℕ) (hi : D < 9007199254740992) (few : E ≤ 895) wh
       places : (E : ℕ) → E ≤ 871 → E + 149 + 54 ≤ 1074
       places E h = omega arith
 
--- ---- m
+-- ---- the five ranges of m
 digits_lo : (m : ℕ) → 4503599627370496 ≤ 4503599627370496 + m % 4503599627370496
 digits_lo m = omega arith
 
@@ -140,10 +147,25 @@ narrowed_mid s m x e h =
     under : (m x : ℕ) → m / 4503599627370496 ≡ suc x → x < 2046 → m < 9223372036854775808
     under m x e h = omega arith
 
--- with either sign, the f32 pattern r is read as the f64 pattern m is, narrowed
-pub record Narrows (m r : ℕ) : Type 0 where
-  pub small : r ≤ 2139095040
-  pub same : (s : Bool) → of_bits binary32 (signed binary32 s r) ≡ narrowed (of_bits binary64 (signed binary64 s m))
+pub narrows_inf : Narrows 9218868437227405312 2139095040
+narrows_inf = record { small = omega arith; same = λ s. reads_inf binary32 s ∙ sym (narrowed_inf s) ∙ sym (ap narrowed (reads_inf binary64 s)) }
+
+pub narrows_past : (m : ℕ) → 1151 ≤ m / 4503599627370496 → m < 9218868437227405312 → Narrows m 2139095040
+narrows_past m lo hi =
+    let j = m / 4503599627370496 - 897 in
+    record {
+      small = omega arith;
+      same = λ s. reads_inf binary32 s ∙ sym (narrowed_mid s m (j + 896) (field m lo) (in_range_lem m hi) ∙ past s (4503599627370496 + m % 4503599627370496) j (digits_lo m) (digits_hi m) (far m lo));
+    }
+  where
+    field : (m : ℕ) → 1151 ≤ m / 4503599627370496 → m / 4503599627370496 ≡ suc (m / 4503599627370496 - 897 + 896)
+    field m h = omega arith
+
+    in_range_lem : (m : ℕ) → m < 9218868437227405312 → m / 4503599627370496 - 897 + 896 < 2046
+    in_range_lem m h = omega arith
+
+    far : (m : ℕ) → 1151 ≤ m / 4503599627370496 → 254 ≤ m / 4503599627370496 - 897
+    far m h = omega arith
 
 pub narrows_mid : (m : ℕ) → 897 ≤ m / 4503599627370496 → m / 4503599627370496 < 1151
     → Narrows m ((m / 4503599627370496 - 897) * 8388608 + closest (4503599627370496 + m % 4503599627370496) (2 ^ 29))
@@ -165,6 +187,29 @@ narrows_mid m lo hi =
     field x h = omega arith
 
     in_range_lem : (x : ℕ) → x < 1151 → x - 897 + 896 < 2046
+    in_range_lem x h = omega arith
+
+pub narrows_low : (m : ℕ) → 873 ≤ m / 4503599627370496 → m / 4503599627370496 < 897 → Narrows m (closest (4503599627370496 + m % 4503599627370496) (2 ^ (926 - m / 4503599627370496)))
+narrows_low m lo hi =
+    let x = m / 4503599627370496 - 1 in
+    let D = 4503599627370496 + m % 4503599627370496 in
+    let k = 926 - m / 4503599627370496 in
+    let kept : closest (D * 2 ^ x * 2 ^ 149) (2 ^ 1074) ≡ closest D (2 ^ k) = low_kept true D x (digits_hi m) (range (m / 4503599627370496) hi) k (places (m / 4503599627370496) lo hi) in
+    record {
+      small = le_trans (low_le true D x (digits_hi m) (range (m / 4503599627370496) hi) (closest D (2 ^ k)) kept) (lit≤ tt);
+      same = λ s. low_bits s D x (digits_hi m) (range (m / 4503599627370496) hi) (closest D (2 ^ k)) kept ∙ sym (narrowed_mid s m x (field (m / 4503599627370496) lo) (in_range_lem (m / 4503599627370496) hi));
+    }
+  where
+    range : (x : ℕ) → x < 897 → x - 1 ≤ 895
+    range x h = omega arith
+
+    places : (x : ℕ) → 873 ≤ x → x < 897 → x - 1 + (926 - x) ≡ 925
+    places x h k = omega arith
+
+    field : (x : ℕ) → 873 ≤ x → x ≡ suc (x - 1)
+    field x h = omega arith
+
+    in_range_lem : (x : ℕ) → x < 897 → x - 1 < 2046
     in_range_lem x h = omega arith
 
 pub narrows_tiny : (m : ℕ) → m / 4503599627370496 < 873 → Narrows m 0
@@ -196,14 +241,3 @@ narrows_tiny m h = record { small = omega arith; same = λ s. sym (go s (m / 450
         let D = 4503599627370496 + m % 4503599627370496 in
         narrowed_mid s m x e (in_range_lem x l)
         ∙ sym (low_bits s D x (digits_hi m) (far x (less x l)) 0 (tiny_kept s D x (digits_hi m) (far x (less x l)) (less x l)))
-
--- a pattern with a field below 873 gives a zero of its sign
-pub narrows_nought : (b : ℕ) → b < 9223372036854775808 → b / 4503599627370496 % 2048 < 873 → of_bits binary32 0 ≡ narrowed (of_bits binary64 b)
-narrows_nought b h l = (narrows_tiny b (omega arith)).same false ∙ ap (λ (n : ℕ). narrowed (of_bits binary64 n)) (zero-add b)
-
-minus_nought : neg (of_bits binary32 0) ≡ of_bits binary32 2147483648
-unfolding neg of_bits
-minus_nought = refl
-
-pub narrows_minus_nought : (b : ℕ) → b < 18446744073709551616 → 9223372036854775808 ≤ b → b / 4503599627370496 % 2048 < 873 → neg (of_bits binary32 0) ≡ narrowed (of_bits binary64 b)
-narrows_minus_nought b u h l = minus_nought ∙ (narrows_tiny (b - 9223372036854775808) (omega arith)).same true ∙ ap (λ (n : ℕ). narrowed (of_bits binary64 n)) (add-sub_of_le h)
