@@ -3,13 +3,13 @@ use mathlib.Core.Path.{◌≡◌, refl, sym, ap, ◌∙◌}
 use mathlib.Core.Bool.{Bool, true, false, cond, ◌&&◌, and-eq-true_iff}
 use Prim.Native.Nat.{ℕ, zero, suc, ◌+◌, ◌-◌, ◌<◌, ◌≤◌}
 use native.Mathlib.Omega.{arith}
+use native.Mathlib.Nat.{zero-add, suc-add}
 use native.Mathlib.Numerals.{add-one}
 use mathlib.Core.List.{List, [], ◌∷◌, ◌++◌, map, append_assoc}
 use lib.Dec.{leb}
-use lib.ListN.{length, take, drop, get_or, set, replicate, length-append, length-set, length-map, length-drop, length-replicate, drop_of_length-le, get_or-map}
-use lib.Seq.{drop-cons, drop-drop, get_or-take, get_or-drop, length-take-le, take-append_seam, take-append-add, drop-append-add}
-use Rattle.std.proofs.lemmas.List.{drop-take, drop-map}
-use borrow.Rule.Slice.PartMut.{mid_of, put_mid, mid_len}
+use lib.ListN.{length, take, drop, get_or, set, replicate, length-append, length-set, length-map, length-drop, length-replicate, replicate-append-replicate, drop_of_length-le, get_or-map}
+use lib.Seq.{drop-cons, get_or-take, get_or-drop, length-take-le, take-suc, take-length, take-append_seam, append_snoc, set_at, set-append_left}
+use Rattle.std.proofs.lemmas.List.{drop-map}
 use mir.Val.{bool_byte}
 use lib.Ieee.{Float}
 use borrow.Author.Tests.{leb-true, le-leb, lt-leb}
@@ -18,35 +18,57 @@ use Rattle.stage.specs.Stage.{Step}
 use Rattle.sidechain.specs.declared.DuckRate.{DuckRate}
 use Rattle.sidechain.specs.Sidechain.{span, releases}
 use Rattle.ranges.specs.Ranges.{most_kicks}
-use Rattle.duck.specs.Cursors.{DuckIn, duck_on, kicks_laid, laid, is_mark, flag, kicks_in, marks_in, Reached, reached_at, reach, released, times_gain, times_until, gave, gain_on, Within, duck_counts}
+use Rattle.duck.specs.Cursors.{DuckIn, duck_on, laid, is_mark, flag, kicks_in, marks_in, Reached, reached_at, reach, released, times_gain, times_until, gave, gain_on, Within, duck_counts}
 
--- ---- the kicks laid and unmarked
+-- ---- the kicks laid and unmarked, one after the other
+
+put_turn : (ks u : List ℕ) (j : ℕ) → j < length ks → j < length u → set (take j ks ++ drop j u) j (get_or ks j 0) ≡ take (j + 1) ks ++ drop (j + 1) u
+put_turn ks u j h k =
+    ap (λ (l : List ℕ). set (take j ks ++ l) j (get_or ks j 0)) (drop-cons u j 0 k)
+    ∙ set_at (take j ks) (get_or u j 0) (drop (suc j) u) (get_or ks j 0) j (length-take-le j ks (omega arith))
+    ∙ rw (add-one j, take-suc ks j 0 h, append_snoc)
+
+clear_turn : (u : List ℕ) (j : ℕ) → j < length u → set (replicate j 0 ++ drop j u) j 0 ≡ replicate (j + 1) 0 ++ drop (j + 1) u
+clear_turn u j k =
+    ap (λ (l : List ℕ). set (replicate j 0 ++ l) j 0) (drop-cons u j 0 k)
+    ∙ set_at (replicate j 0) (get_or u j 0) (drop (suc j) u) 0 j (length-replicate {A = ℕ} j 0)
+    ∙ rw (← replicate-append-replicate {A = ℕ} j 1 0, append_snoc, add-one j)
+
+set_behind : (xs ys : List ℕ) (i n v : ℕ) → length xs ≡ n → set (xs ++ ys) (n + i) v ≡ xs ++ set ys i v
+set_behind xs ys i n v e = rw (← e) (go xs)
+  where
+    go : (xs : List ℕ) → set (xs ++ ys) (length xs + i) v ≡ xs ++ set ys i v
+    go [] = rw (zero-add i)
+    go (x ∷ xs) = rw (suc-add (length xs) i) (ap (λ (l : List ℕ). x ∷ l) (go xs))
+
+-- the first j of them
+abbrev pub laid_up_to : ℕ → List ℕ → List ℕ → List ℕ
+laid_up_to j ks u = (take j ks ++ drop j (take most_kicks u)) ++ (replicate j 0 ++ drop j (drop most_kicks u))
 
 module _ (ks u : List ℕ) (few : length ks ≤ most_kicks) (wide : duck_counts ≤ length u) where
-  front_length : length (ks ++ drop (length ks) (take most_kicks u)) ≡ most_kicks
-  front_length =
+  front_length : (j : ℕ) → j ≤ length ks → length (take j ks ++ drop j (take most_kicks u)) ≡ most_kicks
+  front_length j h =
+      let a = length-take-le j ks h in
       let b = length-take-le most_kicks u (omega arith) in
-      let c = length-drop (length ks) (take most_kicks u) in
-      length-append ks (drop (length ks) (take most_kicks u)) ∙ omega arith
+      let c = length-drop j (take most_kicks u) in
+      length-append (take j ks) (drop j (take most_kicks u)) ∙ omega arith
 
-  -- the kicks copied to the front, and as many places of the marks filled with zeros
-  pub laid_is : (front marks : List ℕ) → front ≡ ks → marks ≡ replicate (length (mid_of most_kicks (most_kicks + length ks - most_kicks) (front ++ drop (length ks) u))) 0
-      → put_mid most_kicks (most_kicks + length ks - most_kicks) (front ++ drop (length ks) u) marks ≡ kicks_laid ks u
-  laid_is front marks e f =
-      let some : most_kicks + length ks - most_kicks ≡ length ks = omega arith in
-      let all : length ks + (most_kicks - length ks) ≡ most_kicks = omega arith in
-      let long : most_kicks + length ks ≤ length (ks ++ drop (length ks) u) = rw (length-append ks (drop (length ks) u), length-drop (length ks) u) (omega arith) in
-      let first : take most_kicks (ks ++ drop (length ks) u) ≡ ks ++ drop (length ks) (take most_kicks u) =
-      rw all at (take-append-add ks (drop (length ks) u) (most_kicks - length ks) ∙ ap (λ (l : List ℕ). ks ++ l) (sym (drop-take (length ks) (most_kicks - length ks) u))) in
-      let last : drop most_kicks (ks ++ drop (length ks) u) ≡ drop most_kicks u =
-      rw all at (drop-append-add ks (drop (length ks) u) (most_kicks - length ks) ∙ drop-drop (most_kicks - length ks) (length ks) u) in
-      let zeros : length (mid_of most_kicks (most_kicks + length ks - most_kicks) (ks ++ drop (length ks) u)) ≡ length ks = mid_len most_kicks (most_kicks + length ks) _ long ∙ some in
-      rw (f, e, zeros, some, first, last)
+  pub laid_turn : (j : ℕ) → j < length ks → set (set (laid_up_to j ks u) j (get_or ks j 0)) (most_kicks + j) 0 ≡ laid_up_to (j + 1) ks u
+  laid_turn j h =
+      let front = take j ks ++ drop j (take most_kicks u) in
+      let next = take (j + 1) ks ++ drop (j + 1) (take most_kicks u) in
+      let marks = replicate j 0 ++ drop j (drop most_kicks u) in
+      let a = front_length j (omega arith) in
+      let b = length-take-le most_kicks u (omega arith) in
+      let c = length-drop most_kicks u in
+      ap (λ (l : List ℕ). set l (most_kicks + j) 0) (set-append_left front marks j (get_or ks j 0) (omega arith) ∙ ap (λ (l : List ℕ). l ++ marks) (put_turn ks (take most_kicks u) j h (omega arith)))
+      ∙ set_behind next marks j most_kicks 0 (front_length (j + 1) (omega arith))
+      ∙ ap (λ (l : List ℕ). next ++ l) (clear_turn (drop most_kicks u) j (omega arith))
 
   pub laid_length : length (laid ks u).part ≡ length u
   laid_length =
       let front = ks ++ drop (length ks) (take most_kicks u) in
-      let a = front_length in
+      let a : length front ≡ most_kicks = rw (take-length ks) at (front_length (length ks) (omega arith)) in
       let b = length-replicate {A = ℕ} (length ks) 0 in
       let c = length-drop (length ks) (drop most_kicks u) in
       let d = length-drop most_kicks u in

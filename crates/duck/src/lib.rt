@@ -49,11 +49,13 @@ impl Duck {
         requires { (length kicks.now ≤ most_kicks) × (duck_counts ≤ length counts.old) }
         ensures { duck_on result counts.new ≡ laid kicks.now counts.old }
     {
-        let count = kicks.len();
-        counts[..count].copy_from_slice(kicks);
-        counts[ranges::MOST_KICKS..ranges::MOST_KICKS + count].fill(0);
+        // By a loop: std's copy would call memmove, which the header does not name.
+        for (i, &kick) in kicks.iter().enumerate() {
+            counts[i] = kick;
+            counts[ranges::MOST_KICKS + i] = 0;
+        }
         Self {
-            count,
+            count: kicks.len(),
             reached: 0,
             ducking: 0,
         }

@@ -2,7 +2,6 @@
 use Rattle.std.proofs.Common.{◌≡◌, ℕ, ◌+◌, ◌-◌, ◌<◌, ◌≤◌, List, [], ◌∷◌, map, ◌++◌, length, take, drop, get_or, set, ap, sym, ◌∙◌, arith, append_assoc, append-nil, length-take-le}
 use Rattle.std.proofs.lemmas.List.{take_at, drop_at, drop-drop, take_all, drop_all, map-append, length-map, map_more, drop_more, set_at}
 use lib.Seq.{take-add}
-use Rattle.std.proofs.lemmas.Grind.{common_steps}
 use borrow.Rule.Slice.PartMut.{put_mid, mid_of}
 use lib.Ieee.{Float, nan}
 
@@ -31,7 +30,3 @@ module _ (f : Float → Float) (s₀ : List Float) where
 
   pub done_all : (i : ℕ) → length s₀ ≤ i → done_to i ≡ map f s₀
   done_all i h = rw (take_all i s₀ h, drop_all i s₀ h) (append-nil (map f s₀))
-
--- one more number copied from s
-pub copied : (s x : List Float) (i : ℕ) → i < length x → ((k : ℕ) → k < i → get_or x k nan ≡ get_or s k nan) → (k : ℕ) → k < i + 1 → get_or (set x i (get_or s i nan)) k nan ≡ get_or s k nan
-copied s x i within same k h = grind (arith, common_steps, same k)

@@ -112,13 +112,13 @@ fn saturate_group(s: &mut [f64], drive: f64, top: f64)
     requires { length s.old ≤ 8 }
     ensures { s.new ≡ map (saturated_over drive top) s.old }
 {
-    let mut x = [0.0; 8];
-    for (i, v) in s.iter().enumerate() {
-        x[i] = *v;
-    }
+    // Each place tested: a copy of a length that is not known calls memcpy.
+    let x = array::from_fn(|i| if i < s.len() { s[i] } else { 0.0 });
     let y = saturate_eight(f64x8::from_array(x), drive, top).to_array();
-    for (i, v) in s.iter_mut().enumerate() {
-        *v = y[i];
+    for i in 0..8 {
+        if i < s.len() {
+            s[i] = y[i];
+        }
     }
 }
 

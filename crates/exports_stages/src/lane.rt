@@ -152,7 +152,8 @@ impl Lane<'_, '_> {
         }
     }
 
-    // The calls, four words each, over the samples in place.
+    // The calls, four words each, over the samples in place. Written out where it is called, so that the lane is no struct in memory, which memcpy would copy.
+    #[inline(always)]
     pub fn play(&mut self, samples: &mut [f64], calls: &[u64]) {
         let mut at = 0;
         for call in calls.chunks(4).filter_map(Call::of) {

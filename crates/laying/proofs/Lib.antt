@@ -1,2 +1,3 @@
--- A list laid behind another.
+-- A list laid so far, and a list laid behind another.
+mod Laid
 pub mod Joined
