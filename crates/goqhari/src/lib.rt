@@ -44,10 +44,11 @@ fn lent_strip(
 ) -> Result<Strip, Refusal>
     ensures { result ≡ lent_strip (rate_of 44100) numbers.now words.now store.now counts.now }
 {
-    packing::unpack(numbers, words).map_err(|error| match error {
-        UnpackError::Short => Refusal::StoreShort,
-        UnpackError::Malformed => declined(Refusal::BadStrip, store, counts),
-    })
+    match packing::unpack(numbers, words) {
+        Ok(strip) => Ok(strip),
+        Err(UnpackError::Short) => Err(Refusal::StoreShort),
+        Err(UnpackError::Malformed) => Err(declined(Refusal::BadStrip, store, counts)),
+    }
 }
 
 // ---- open

@@ -42,10 +42,11 @@ pub fn run(
 ) -> Result<Strip, Declined>
     ensures { went result store.new counts.new frames.new gains.new ≡ run_call (rate_of 44100) (state strip store.old counts.old) samples.now drums frames.old gains.old }
 {
-    refusals::check_strip(strip, store, counts)
-        .and_then(|()| refusals::check_run(strip.position, samples, frames.len(), gains.len()))
-        .map_err(|refusal| Declined { refusal, strip })?;
-    Ok(blocks::go(strip, samples, drums, frames, gains, store, counts))
+    let check_run = |()| refusals::check_run(strip.position, samples, frames.len(), gains.len());
+    match refusals::check_strip(strip, store, counts).and_then(check_run) {
+        Ok(()) => Ok(blocks::go(strip, samples, drums, frames, gains, store, counts)),
+        Err(refusal) => Err(Declined { refusal, strip }),
+    }
 }
 
 // ---- latch
@@ -86,10 +87,11 @@ pub fn latch(
 ) -> Result<Strip, Declined>
     ensures { result ≡ latch_call (rate_of 44100) (state strip store.now counts.now) controls }
 {
-    refusals::check_strip(strip, store, counts)
-        .and_then(|()| refusals::check_latch(controls))
-        .map_err(|refusal| Declined { refusal, strip })?;
-    Ok(latched(strip, controls))
+    let check_latch = |()| refusals::check_latch(controls);
+    match refusals::check_strip(strip, store, counts).and_then(check_latch) {
+        Ok(()) => Ok(latched(strip, controls)),
+        Err(refusal) => Err(Declined { refusal, strip }),
+    }
 }
 
 // ---- rest
@@ -130,6 +132,8 @@ fn resting(rate: Rate, strip: Strip, store: &[f64], counts: &[u64]) -> bool
 pub fn rest(strip: Strip, store: &[f64], counts: &[u64]) -> Result<bool, Declined>
     ensures { result ≡ rest_call (rate_of 44100) (state strip store.now counts.now) }
 {
-    refusals::check_strip(strip, store, counts).map_err(|refusal| Declined { refusal, strip })?;
-    Ok(resting(Rate::cd(), strip, store, counts))
+    match refusals::check_strip(strip, store, counts) {
+        Ok(()) => Ok(resting(Rate::cd(), strip, store, counts)),
+        Err(refusal) => Err(Declined { refusal, strip }),
+    }
 }

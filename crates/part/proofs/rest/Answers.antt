@@ -2,13 +2,10 @@
 use mathlib.Core.Path.{sym, ◌∙◌}
 use Rattle.rate.proofs.Rates.{usable_44100}
 use Rattle.refusals.proofs.Numbers.{fine}
-use Rattle.part.proofs.Passed.{went_through}
 use Rattle.part.proofs.rest.Goals as goal
 
 pub resting-requires-clause-rate_usable : goal.resting-requires-clause-rate_usable
 resting-requires-clause-rate_usable c = rw c.cd.ensures usable_44100
 
 pub resting-requires-clause-sized : goal.resting-requires-clause-sized
-resting-requires-clause-sized c =
-    let e = went_through c.check_strip.result c.map_err.result _ _ c.map_err.ensures.cases c.in_ok-map_err.was in
-    rw c.cd.ensures (fine _ _ (sym c.check_strip.ensures ∙ e)).sized
+resting-requires-clause-sized c = rw c.cd.ensures (fine _ _ (sym c.check_strip.ensures ∙ c.in-Ok.is)).sized
