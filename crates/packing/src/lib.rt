@@ -247,11 +247,14 @@ fn pad_from(numbers: &[f64], tag: u64) -> Option<Pad>
     requires { pad_long ≤ length numbers.now }
     ensures { result ≡ pad_from numbers.now tag }
 {
-    let swell = Pad {
-        hz: casts::narrow(numbers[0]),
-        depth: casts::narrow(numbers[1]),
-    };
-    (tag != 0).then_some(swell)
+    if tag == 0 {
+        None
+    } else {
+        Some(Pad {
+            hz: casts::narrow(numbers[0]),
+            depth: casts::narrow(numbers[1]),
+        })
+    }
 }
 
 // ---- which numbers are an f32's
