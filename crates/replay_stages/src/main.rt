@@ -4,6 +4,8 @@
 // It may use the exported functions and vectors.
 #![tactic(auto)]
 
+ghost use Rattle.std.specs.Prelude.{◌≤◌, length};
+
 mod function;
 
 use function::Function;
@@ -67,7 +69,9 @@ fn repeat(x: &[f64; SIGNAL], out: &mut [f64]) {
 }
 
 // How many of the answers have the numbers that are kept.
-fn alike<K: Kept>(answers: &[K], kept: &[u64]) -> Count {
+fn alike<K: Kept>(answers: &[K], kept: &[u64]) -> Count
+    requires { length answers.now ≤ length kept.now }
+{
     let mut count = Count::default();
     for (answer, number) in answers.iter().zip(kept) {
         count += Count::one(answer.number() == *number);

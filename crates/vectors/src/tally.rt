@@ -2,6 +2,7 @@
 ghost use Rattle.std.specs.Prelude.{◌≡◌, ◌≢◌, ℕ, ◌+◌, ◌%◌, ◌^◌, ◌<◌, List, None, IfSome, if◌then◌else◌};
 ghost use Rattle.std.specs.List.{All};
 ghost use Rattle.vectors.specs.Line.{name_of};
+ghost use Rattle.vectors.specs.Tally.{no_answers, with_one};
 
 use crate::line;
 use std::ops::AddAssign;
@@ -74,12 +75,16 @@ impl fmt::Display for Count {
 /// The counts of N kinds, and of the lines that name none of them.
 #[derive(Clone, Copy)]
 pub struct Tally<const N: usize> {
-    kinds: [Count; N],
-    others: Count,
+    pub kinds: [Count; N],
+    pub others: Count,
 }
 
 impl<const N: usize> Tally<N> {
-    pub fn new() -> Self {
+    /// No answers.
+    pub fn new() -> Self
+        ensures kinds { All (λ count. count ≡ no_answers) result.kinds }
+        ensures others { result.others ≡ no_answers }
+    {
         let none = Count::default();
         Tally {
             kinds: [none; N],
@@ -88,7 +93,10 @@ impl<const N: usize> Tally<N> {
     }
 
     /// Counts an answer of that kind.
-    pub fn count<K: Kind<N>>(&mut self, kind: Option<K>, alike: bool) {
+    pub fn count<K: Kind<N>>(&mut self, kind: Option<K>, alike: bool)
+        ensures named { IfSome kind (λ kind. self.new.others ≡ self.old.others) }
+        ensures unnamed { kind ≡ None → (self.new.kinds ≡ self.old.kinds) × (self.new.others ≡ with_one self.old.others alike) }
+    {
         let one = Count::one(alike);
         match kind {
             Some(kind) => self.kinds[kind.place()] += one,
