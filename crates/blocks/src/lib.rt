@@ -180,7 +180,8 @@ pub fn bus_block(
 
 // ---- a run's samples, piece by piece
 
-// The lane and then the bus, each on its own parts of the stores.
+// The lane and then the bus, each on its own parts of the stores. Written out in `go`, where the rate's numbers are constants.
+#[inline(always)]
 fn block(
     rate: Rate,
     strip: Strip,
